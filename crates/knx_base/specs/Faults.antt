@@ -1,0 +1,15 @@
+-- Counts of faults: an answer of failure has its cause in a count that rose.
+use Rattle.std.specs.Prelude.{ℕ, ◌+◌, ◌-◌, ◌^◌, ◌≤◌, min, Result, OnErr}
+
+-- one more, but a count stands still at its type's last value
+abbrev pub counted : ℕ → ℕ
+counted n = min (n + 1) (2 ^ 64 - 1)
+
+-- a count rose, or stands at its type's last value
+abbrev pub Rose : ℕ → ℕ → Type 0
+Rose before now = counted before ≤ now
+
+-- a call never lessens its object's count of faults, and fails only where that count rose
+pub record HasCause {T E : Type 0} (before now : ℕ) (result : Result T E) : Type 0 where
+  pub later : before ≤ now
+  pub failed : OnErr result (Rose before now)

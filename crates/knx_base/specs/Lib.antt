@@ -1,0 +1,6 @@
+pub mod Faults
+pub mod Number
+pub mod Sink
+pub mod Files
+pub mod Host
+pub mod MemSink

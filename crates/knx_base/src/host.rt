@@ -1,0 +1,149 @@
+ghost use Rattle.std.specs.Prelude.{◌≡◌, ℕ, ◌≤◌, ◌<◌, None, Some, [], Option, List, length, IfOk, false};
+ghost use Rattle.std.specs.Option.{option_map};
+ghost use Rattle.std.specs.Io.{ReadsAtMost};
+ghost use Rattle.knx_base.specs.Files.{Seen};
+ghost use Rattle.knx_base.specs.Host.{HostState, seen_of};
+
+use crate::{Failed, Files, LAST_PLACE, Sink};
+use std::io::{self, ErrorKind, Print, Read};
+use std::marker::Model;
+use std::{fs, rt};
+
+/// Standard output, or whatever the runtime prints to. It tells no octets.
+///
+/// A contract sees it as its count of faults.
+#[derive(Drop)]
+pub struct HostSink<'a, R: Print> {
+    host: &'a R,
+    faults: u64,
+}
+
+impl<'a, R: Print> Model for HostSink<'a, R> {
+    ghost Value = { ℕ };
+
+    ghost view = { λ s. s.faults };
+}
+
+impl<'a, R: Print> HostSink<'a, R> {
+    /// The runtime's printing as a sink, with no faults so far.
+    pub fn new(host: &'a R) -> HostSink<'a, R>
+        ensures no_faults { result ≡ 0 }
+    {
+        HostSink { host, faults: 0 }
+    }
+}
+
+impl<R: Print> Sink for HostSink<'_, R> {
+    ghost octets = { λ _. None };
+
+    ghost faults = { λ faults. faults };
+
+    fn write(&mut self, bytes: &[u8]) -> Result<usize, Failed> {
+        match print_some(self.host, bytes) {
+            Ok(count) if count > 0 => Ok(count),
+            _ => {
+                self.faults = self.faults.saturating_add(1);
+                Err(Failed)
+            }
+        }
+    }
+}
+
+/// The files of the runtime, by their paths. They tell neither names nor octets; a name that is not there is a fault,
+/// and so is every read at the last place.
+#[derive(Drop)]
+pub struct HostFiles<'a, R: rt::Files> {
+    host: &'a R,
+    file: Option<R::File>,
+    place: u64,
+    faults: u64,
+}
+
+impl<'a, R: rt::Files> Model for HostFiles<'a, R> {
+    ghost Value = { HostState };
+
+    ghost view = { λ s. record { current = option_map (λ _. []) s.file; place = s.place; faults = s.faults } };
+}
+
+impl<'a, R: rt::Files> HostFiles<'a, R> {
+    /// The runtime's files, with none current and no faults so far.
+    pub fn new(host: &'a R) -> HostFiles<'a, R>
+        ensures none_current { result.current ≡ None }
+        ensures no_faults { result.faults ≡ 0 }
+    {
+        HostFiles {
+            host,
+            file: None,
+            place: 0,
+            faults: 0,
+        }
+    }
+}
+
+impl<R: rt::Files> Files for HostFiles<'_, R> {
+    ghost seen = { seen_of };
+
+    fn open(&mut self, name: &str) -> Result<(), Failed> {
+        self.file = None;
+        match open_file(self.host, name) {
+            Ok(file) => {
+                self.file = Some(file);
+                self.place = 0;
+                Ok(())
+            }
+            Err(_) => {
+                self.faults = self.faults.saturating_add(1);
+                Err(Failed)
+            }
+        }
+    }
+
+    fn read(&mut self, buffer: &mut [u8]) -> Result<usize, Failed> {
+        if let Some(file) = &mut self.file
+            && self.place < LAST_PLACE
+        {
+            let room = (LAST_PLACE - self.place).min(buffer.len() as u64) as usize;
+            if let Ok(count) = read_some(file, &mut buffer[..room]) {
+                self.place += count as u64;
+                return Ok(count);
+            }
+        }
+        self.faults = self.faults.saturating_add(1);
+        Err(Failed)
+    }
+}
+
+// Asks the host until it answers: an interrupted call is made again.
+fn print_some<R: Print>(host: &R, bytes: &[u8]) -> io::Result<usize>
+    ensures bound { IfOk result (λ n. n ≤ length bytes.now) }
+{
+    for _ in 0..u64::MAX {
+        match host.write_some(bytes) {
+            Err(error) if error.kind() == ErrorKind::Interrupted => {}
+            answer => return answer,
+        }
+    }
+    Err(io::Error::from(ErrorKind::Interrupted))
+}
+
+fn open_file<R: rt::Files>(host: &R, name: &str) -> io::Result<R::File> {
+    for _ in 0..u64::MAX {
+        match fs::open(host, name) {
+            Err(error) if error.kind() == ErrorKind::Interrupted => {}
+            answer => return answer,
+        }
+    }
+    Err(io::Error::from(ErrorKind::Interrupted))
+}
+
+fn read_some<F: Read>(file: &mut F, buffer: &mut [u8]) -> io::Result<usize>
+    ensures bound { IfOk result (λ n. n ≤ length buffer.new) }
+{
+    for _ in 0..u64::MAX {
+        match file.read(buffer) {
+            Err(error) if error.kind() == ErrorKind::Interrupted => {}
+            answer => return answer,
+        }
+    }
+    Err(io::Error::from(ErrorKind::Interrupted))
+}

@@ -1,0 +1,19 @@
+//! What every crate of the workspace stands on: numbers of 48 bits, the two faults, and the traits through which the
+//! program sees the world outside, files and a sink of octets, with implementations in memory and over the host.
+#![tactic(auto)]
+
+mod faults;
+mod files;
+mod host;
+mod mem_sink;
+mod number;
+mod sink;
+#[cfg(test)]
+mod tests;
+
+pub use faults::{Failed, NoMemory};
+pub use files::{Files, LAST_PLACE};
+pub use host::{HostFiles, HostSink};
+pub use mem_sink::MemSink;
+pub use number::Number48;
+pub use sink::{Sink, print_text};

@@ -1,0 +1,29 @@
+use crate::{Failed, MemSink, Number48, Sink, print_text};
+use std::test::Fail;
+
+#[test]
+fn a_number_comes_back_from_its_octets(rt: HostRuntime) -> Result<(), Fail> {
+    let number = Number48::new(0x0102_0304_0506).ok_or("too great")?;
+    assert_eq!(rt; number.to_bytes(), [1, 2, 3, 4, 5, 6]);
+    assert_eq!(rt; Number48::from_bytes([0, 0, 0, 0, 1, 0]).get(), 256);
+    Ok(())
+}
+
+#[test]
+fn a_sink_in_memory_keeps_what_fits(rt: HostRuntime) -> Result<(), Fail> {
+    let mut out = MemSink::new(rt.alloc(), 3)?;
+    assert_eq!(rt; print_text(b"abcdef", &mut out), Err(Failed));
+    assert_eq!(rt; out.bytes(), b"abc".as_slice());
+    Ok(())
+}
+
+#[test]
+fn the_armed_write_alone_fails(rt: HostRuntime) -> Result<(), Fail> {
+    let mut out = MemSink::new(rt.alloc(), 8)?;
+    out.fail_at(2)?;
+    assert_eq!(rt; out.write(b"a"), Ok(1));
+    assert_eq!(rt; out.write(b"b"), Err(Failed));
+    assert_eq!(rt; out.write(b"c"), Ok(1));
+    assert_eq!(rt; out.bytes(), b"ac".as_slice());
+    Ok(())
+}
