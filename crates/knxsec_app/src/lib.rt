@@ -1,0 +1,13 @@
+//! The program as one call: `run` takes the words of a command line, the files and the sink, and answers a status.
+#![tactic(auto)]
+
+mod frame_word;
+mod obey;
+mod status;
+#[cfg(test)]
+mod tests;
+mod top;
+mod words;
+
+pub use status::Status;
+pub use top::run;

@@ -1,0 +1,45 @@
+ghost use Rattle.std.specs.Prelude.{◌≡◌, ◌≢◌, ℕ, List, map, Option, None};
+ghost use Rattle.std.specs.Option.{ForSome};
+ghost use Rattle.std.specs.String.{string_bytes};
+ghost use Rattle.knx_base.specs.Faults.{Rose};
+ghost use Rattle.knx_base.specs.Files.{File};
+ghost use Rattle.knxsec_app.specs.Words.{command_of};
+ghost use Rattle.knxsec_app.specs.Answer.{answer_of, Answers, AreFiles, NamesNoFile};
+
+use crate::Status;
+use crate::obey::{obey, print_usage};
+use crate::words::read_words;
+use knx_base::{Files, Sink};
+use std::alloc::Global;
+
+/// Does what the words of a command line ask for: reads the files that they name, writes the report to `out`, and
+/// answers how it ended.
+///
+/// `open KEYHEX FRAMEHEX` opens one frame; its words write 16 octets, and 1 to 1,024, in hexadecimal.
+/// All other words are answered by the usage line.
+pub fn run<F: Files, S: Sink>(
+    _alloc: Global,
+    words: &[String],
+    files: &mut F,
+    out: &mut S,
+) -> Status
+    ensures answer { (told : List File) → AreFiles (command_of (map string_bytes words.now)) (F.seen files.old) told
+        → Answers (answer_of (map string_bytes words.now) told) result (S.octets out.old) (S.octets out.new) }
+
+    // Words of no form alone are answered by the usage line.
+    ensures usage { result ≡ Status.Usage → command_of (map string_bytes words.now) ≡ None }
+
+    // A fault is answered only where its cause was counted in this call.
+    ensures read_fault { result ≡ Status.ReadFault → Rose (F.seen files.old).faults (F.seen files.new).faults }
+    ensures write_fault { result ≡ Status.WriteFault → Rose (S.faults out.old) (S.faults out.new) }
+
+    // A command that names no file takes no memory and leaves the files alone.
+    ensures no_memory { NamesNoFile (command_of (map string_bytes words.now)) → result ≢ Status.NoMemory }
+    ensures no_reading { NamesNoFile (command_of (map string_bytes words.now)) → result ≢ Status.ReadFault }
+    ensures unread { NamesNoFile (command_of (map string_bytes words.now)) → files.new ≡ files.old }
+{
+    match read_words(words) {
+        Some(command) => obey(&command, out),
+        None => print_usage(out),
+    }
+}

@@ -1,0 +1,42 @@
+ghost use Rattle.std.specs.Prelude.{◌≡◌, map};
+ghost use Rattle.std.specs.Option.{option_map};
+ghost use Rattle.std.specs.String.{string_bytes};
+ghost use Rattle.knxsec_app.specs.Words.{command_of, octets_between};
+ghost use Rattle.knxsec_app.specs.Asked.{asked_of};
+
+use crate::frame_word::FrameWord;
+use hex::FromHex;
+
+/// What the words ask for.
+#[derive(Drop)]
+pub(crate) enum Command {
+    Open { key: [u8; 16], frame: FrameWord },
+}
+
+fn read_key(word: &str) -> Option<[u8; 16]>
+    ensures octets { result ≡ octets_between 16 16 word.now }
+{
+    match <[u8; 16] as FromHex>::from_hex(word) {
+        Ok(key) => Some(key),
+        Err(_) => None,
+    }
+}
+
+/// What the words ask for, or None where they are of no form.
+pub(crate) fn read_words(words: &[String]) -> Option<Command>
+    ensures asked { option_map asked_of result ≡ command_of (map string_bytes words.now) }
+{
+    let [verb, key, frame] = words else {
+        return None;
+    };
+    if verb.as_str() != "open" {
+        return None;
+    }
+    let Some(key) = read_key(key) else {
+        return None;
+    };
+    let Some(frame) = FrameWord::read(frame) else {
+        return None;
+    };
+    Some(Command::Open { key, frame })
+}
