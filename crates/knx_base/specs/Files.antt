@@ -1,6 +1,7 @@
 -- What is seen of a set of files, and what opening and reading do to it.
-use Rattle.std.specs.Prelude.{◌≡◌, ◌≢◌, ℕ, ◌+◌, ◌^◌, ◌≤◌, ◌⊎◌, List, [], ◌∷◌, length, take, drop, Option, Some, None, IsSome, Result, OnOk, OnErr, IfOk}
+use Rattle.std.specs.Prelude.{◌≡◌, ◌≢◌, ℕ, ◌+◌, ◌^◌, ◌≤◌, nat_eq, if◌then◌else◌, List, [], ◌∷◌, length, take, drop, Option, Some, None, IsSome, Result, OnOk, OnErr, IfOk}
 use Rattle.std.specs.Option.{IsSomeAnd}
+use Rattle.std.specs.Cmp.Lexicographic.{pointwise}
 use Rattle.knx_base.specs.Faults.{HasCause}
 
 -- a file by its name and its octets
@@ -8,15 +9,14 @@ pub record File : Type 0 where
   pub name : List ℕ
   pub octets : List ℕ
 
--- the first file of this name has these octets
-abbrev pub HasFile : List File → List ℕ → List ℕ → Type 0
-HasFile [] name octets = ⊥
-HasFile (file ∷ files) name octets =
-    ((file.name ≡ name) × (file.octets ≡ octets)) ⊎ ((file.name ≢ name) × HasFile files name octets)
+-- the octets of the first file of this name
+abbrev pub octets_named : List File → List ℕ → Option (List ℕ)
+octets_named [] name = None
+octets_named (file ∷ files) name = if pointwise nat_eq file.name name then Some file.octets else octets_named files name
 
 -- there is a file of this name
 abbrev pub IsThere : List File → List ℕ → Type 0
-IsThere files name = (octets : List ℕ) × HasFile files name octets
+IsThere files name = IsSome (octets_named files name)
 
 -- no read goes past this place of a file, 2^40
 abbrev pub last_place : ℕ
@@ -37,7 +37,7 @@ pub record Seen : Type 0 where
 
 -- it is told that the file of this name has these octets
 abbrev pub Holds : Seen → List ℕ → List ℕ → Type 0
-Holds seen name octets = IsSomeAnd seen.told (λ files. HasFile files name octets)
+Holds seen name octets = IsSomeAnd seen.told (λ files. octets_named files name ≡ Some octets)
 
 -- the named file is current, at its start, and no other file's place changed
 pub record IsAtStart (old new : Seen) (name : List ℕ) : Type 0 where

@@ -4,3 +4,5 @@ pub mod Sink
 pub mod Files
 pub mod Host
 pub mod MemSink
+pub mod MemFiles
+pub mod Shelf

@@ -5,8 +5,10 @@
 mod faults;
 mod files;
 mod host;
+mod mem_files;
 mod mem_sink;
 mod number;
+mod shelf;
 mod sink;
 #[cfg(test)]
 mod tests;
@@ -14,6 +16,7 @@ mod tests;
 pub use faults::{Failed, NoMemory};
 pub use files::{Files, LAST_PLACE};
 pub use host::{HostFiles, HostSink};
+pub use mem_files::MemFiles;
 pub use mem_sink::MemSink;
 pub use number::Number48;
 pub use sink::{Sink, print_text};

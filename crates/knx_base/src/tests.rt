@@ -1,4 +1,4 @@
-use crate::{Failed, MemSink, Number48, Sink, print_text};
+use crate::{Failed, Files, MemFiles, MemSink, Number48, Sink, print_text};
 use std::test::Fail;
 
 #[test]
@@ -25,5 +25,32 @@ fn the_armed_write_alone_fails(rt: HostRuntime) -> Result<(), Fail> {
     assert_eq!(rt; out.write(b"b"), Err(Failed));
     assert_eq!(rt; out.write(b"c"), Ok(1));
     assert_eq!(rt; out.bytes(), b"ac".as_slice());
+    Ok(())
+}
+
+#[test]
+fn a_file_in_memory_is_read_to_its_end(rt: HostRuntime) -> Result<(), Fail> {
+    let mut files = MemFiles::new(rt.alloc());
+    files.add("name", b"octets")?;
+    let mut buffer = [0; 4];
+    assert_eq!(rt; files.open("name"), Ok(()));
+    assert_eq!(rt; files.read(&mut buffer), Ok(4));
+    assert_eq!(rt; &buffer, b"octe");
+    assert_eq!(rt; files.read(&mut buffer), Ok(2));
+    assert_eq!(rt; &buffer[..2], b"ts".as_slice());
+    assert_eq!(rt; files.read(&mut buffer), Ok(0));
+    Ok(())
+}
+
+#[test]
+fn the_armed_call_alone_fails(rt: HostRuntime) -> Result<(), Fail> {
+    let mut files = MemFiles::new(rt.alloc());
+    files.add("name", b"o")?;
+    files.fail_at(2)?;
+    let mut buffer = [0; 4];
+    assert_eq!(rt; files.open("name"), Ok(()));
+    assert_eq!(rt; files.read(&mut buffer), Err(Failed));
+    assert_eq!(rt; files.open("name"), Ok(()));
+    assert_eq!(rt; files.read(&mut buffer), Ok(1));
     Ok(())
 }
