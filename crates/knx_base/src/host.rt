@@ -1,6 +1,7 @@
 ghost use Rattle.std.specs.Prelude.{◌≡◌, ℕ, ◌≤◌, ◌<◌, None, Some, [], Option, List, length, IfOk, false};
 ghost use Rattle.std.specs.Option.{option_map};
 ghost use Rattle.std.specs.Io.{ReadsAtMost};
+ghost use Rattle.knx_base.specs.Faults.{counted};
 ghost use Rattle.knx_base.specs.Files.{Seen};
 ghost use Rattle.knx_base.specs.Host.{HostState, seen_of};
 
@@ -41,10 +42,7 @@ impl<R: Print> Sink for HostSink<'_, R> {
     fn write(&mut self, bytes: &[u8]) -> Result<usize, Failed> {
         match print_some(self.host, bytes) {
             Ok(count) if count > 0 => Ok(count),
-            _ => {
-                self.faults = self.faults.saturating_add(1);
-                Err(Failed)
-            }
+            _ => Err(fail(&mut self.faults)),
         }
     }
 }
@@ -91,10 +89,7 @@ impl<R: rt::Files> Files for HostFiles<'_, R> {
                 self.place = 0;
                 Ok(())
             }
-            Err(_) => {
-                self.faults = self.faults.saturating_add(1);
-                Err(Failed)
-            }
+            Err(_) => Err(fail(&mut self.faults)),
         }
     }
 
@@ -108,9 +103,16 @@ impl<R: rt::Files> Files for HostFiles<'_, R> {
                 return Ok(count);
             }
         }
-        self.faults = self.faults.saturating_add(1);
-        Err(Failed)
+        Err(fail(&mut self.faults))
     }
+}
+
+fn fail(faults: &mut u64) -> Failed
+    ensures counted { faults.new ≡ counted faults.old }
+    ensures later { faults.old ≤ faults.new }
+{
+    *faults = faults.saturating_add(1);
+    Failed
 }
 
 // Asks the host until it answers: an interrupted call is made again.
