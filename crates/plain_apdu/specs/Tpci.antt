@@ -1,5 +1,5 @@
 -- What an octet of transport control says (the transport layer of ISO/IEC 14543-3-1).
-use Rattle.std.specs.Prelude.{◌≡◌, ℕ, ◌+◌, ◌*◌, ◌/◌, ◌%◌, ◌<◌, ◌==◌, nat_lt, ◌&&◌, if◌then◌else◌}
+use Rattle.std.specs.Prelude.{◌≡◌, ℕ, ◌+◌, ◌*◌, ◌/◌, ◌%◌, ◌<◌, ◌==◌, ◌&&◌, if◌then◌else◌}
 use Rattle.plain_apdu.specs.declared.tpci.Tpci.{Tpci}
 use Rattle.plain_apdu.specs.declared.tpci.Tpci.TheVariants.{Data, Connected, Connect, Disconnect, Ack, Nak, Other}
 

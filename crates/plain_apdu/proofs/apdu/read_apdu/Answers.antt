@@ -1,6 +1,5 @@
-use Rattle.std.proofs.Common.{◌≡◌, ◌-◌, ◌%◌, bit_and, length, take, drop, refl, arith, get_or, sym, ◌∙◌}
+use Rattle.std.proofs.Common.{◌≡◌, ◌-◌, ◌%◌, bit_and, length, take, drop, arith, get_or}
 use Rattle.std.proofs.lemmas.Grind.{and_numeral}
-use Rattle.plain_apdu.specs.Apdu.{inner}
 use Rattle.plain_apdu.proofs.Octets.{two_octets, inner_of-octets}
 use Rattle.plain_apdu.proofs.apdu.read_apdu.Goals as goal
 
