@@ -6,3 +6,5 @@ pub mod Host
 pub mod MemSink
 pub mod MemFiles
 pub mod Shelf
+pub mod Decimal
+pub mod Address

@@ -1,7 +1,9 @@
-//! What every crate of the workspace stands on: numbers of 48 bits, the two faults, and the traits through which the
+//! What every crate of the workspace stands on: addresses and decimals as text, numbers of 48 bits, the two faults, and the traits through which the
 //! program sees the world outside, files and a sink of octets, with implementations in memory and over the host.
 #![tactic(auto)]
 
+mod address;
+mod decimal;
 mod faults;
 mod files;
 mod host;
@@ -13,6 +15,8 @@ mod sink;
 #[cfg(test)]
 mod tests;
 
+pub use address::{GroupAddr, IndAddr};
+pub use decimal::{put_decimal, put_octet, read_decimal};
 pub use faults::{Failed, NoMemory};
 pub use files::{Files, LAST_PLACE};
 pub use host::{HostFiles, HostSink};

@@ -1,0 +1,3 @@
+pub mod Tpci
+pub mod Service
+pub mod Apdu
