@@ -3,7 +3,7 @@ use Rattle.std.proofs.Common.{◌≡◌, ◌≢◌, ℕ, ◌+◌, ◌*◌, ◌/�
 use Rattle.std.specs.Prelude.{option_map, IfSome, IfNone}
 use Rattle.std.specs.Fmt.{decimal}
 use Rattle.knx_base.specs.Decimal.{IsDecimal, decimal_up_to}
-use Rattle.knx_base.specs.Address.{IndividualParts, IsIndividual, ThreeParts, TwoParts, IsGroup, parts_text, pieces_of, individual_value, individual_parts, individual_of, three_level_value, two_level_value, group_parts, group_of}
+use Rattle.knx_base.specs.Address.{IndividualParts, IsIndividual, ThreeParts, TwoParts, IsGroup, parts_text, pieces_of, individual_value, individual_parts, individual_of, three_level_value, two_level_value, group_parts, group_of, individual_text, group_text}
 use Rattle.knx_base.proofs.DecimalLemmas.{decimal_up_to-is, decimal_up_to-decimal}
 use Rattle.knx_base.proofs.Pieces.{joined, joined-pieces_of, some_piece, pieces_of-lacking, pieces_of-append, decimal_lacks, decimal_up_to-pieces}
 
@@ -136,3 +136,20 @@ group_of-text text value (inr (inl (main, sub, is))) =
 group_of-text text value (inr (inr is)) =
     let pieces : pieces_of 47 text ≡ decimal value ∷ [] = ap (pieces_of 47) is.1 ∙ pieces_of-lacking 47 (decimal value) (decimal_lacks 47 value (omega arith) (omega (arith, is.0))) in
     ap group_parts pieces ∙ read_back 65535 value is.0 (omega arith)
+
+-- the text that is written for an address is read as that address
+pub individual_of-individual_text : (value : ℕ) → value < 2 ^ 16 → individual_of (individual_text value) ≡ Some value
+individual_of-individual_text value below = individual_of-text (individual_text value) value (
+  value / 4096,
+  value / 256 % 16,
+  value % 256,
+  record { area_bound = omega arith; line_bound = omega arith; device_bound = omega arith; spelled = refl; value_is = omega arith },
+)
+
+pub group_of-group_text : (value : ℕ) → value < 2 ^ 16 → group_of (group_text value) ≡ Some value
+group_of-group_text value below = group_of-text (group_text value) value (inl (
+  value / 2048,
+  value / 256 % 8,
+  value % 256,
+  record { main_bound = omega arith; middle_bound = omega arith; sub_bound = omega arith; spelled = refl; value_is = omega arith },
+))

@@ -1,4 +1,4 @@
-ghost use Rattle.std.specs.Prelude.{◌≡◌, ℕ, ◌<◌, ◌≤◌, [], ◌∷◌, ◌++◌, length, take, drop, MatchOption, IfSome, IfNone, option_map};
+ghost use Rattle.std.specs.Prelude.{◌≡◌, ℕ, ◌<◌, ◌≤◌, [], ◌∷◌, ◌++◌, length, take, drop, MatchOption, IfSome, IfNone, Some, option_map};
 ghost use Rattle.knx_base.specs.Decimal.{decimal_up_to};
 ghost use Rattle.knx_base.specs.Address.{IsIndividual, IsGroup, pieces_of, individual_value, individual_of, two_level_value, three_level_value, group_of, parts_text, individual_text, group_text};
 
@@ -30,7 +30,7 @@ impl IndAddr {
         ensures length { result ≡ length (individual_text self.now.0) }
         ensures text { take result out.new ≡ individual_text self.now.0 }
         ensures rest { drop result out.new ≡ drop result out.old }
-        ensures reads_back { IsIndividual (individual_text self.now.0) self.now.0 }
+        ensures reads_back { individual_of (individual_text self.now.0) ≡ Some self.now.0 }
     {
         write_parts(b'.', self.0 >> 12, self.0 >> 8 & 15, self.0 & 255, out)
     }
@@ -52,7 +52,7 @@ impl GroupAddr {
         ensures length { result ≡ length (group_text self.now.0) }
         ensures text { take result out.new ≡ group_text self.now.0 }
         ensures rest { drop result out.new ≡ drop result out.old }
-        ensures reads_back { IsGroup (group_text self.now.0) self.now.0 }
+        ensures reads_back { group_of (group_text self.now.0) ≡ Some self.now.0 }
     {
         write_parts(b'/', self.0 >> 11, self.0 >> 8 & 7, self.0 & 255, out)
     }
