@@ -1,9 +1,8 @@
 -- The value of an address text by its pieces is what the forms of the text say.
-use Rattle.std.proofs.Common.{◌≡◌, ◌≢◌, ℕ, ◌+◌, ◌*◌, ◌/◌, ◌%◌, ◌^◌, ◌<◌, ◌≤◌, List, [], ◌∷◌, ◌++◌, Option, Some, None, ◌⊎◌, inl, inr, refl, sym, ap, ◌∙◌, arith}
-use Rattle.std.specs.Prelude.{option_map, IfSome, IfNone}
+use Rattle.std.proofs.Common.{◌≡◌, ℕ, ◌/◌, ◌%◌, ◌^◌, ◌<◌, ◌≤◌, List, [], ◌∷◌, ◌++◌, Option, Some, None, inl, inr, refl, sym, ap, ◌∙◌, arith}
 use Rattle.std.specs.Fmt.{decimal}
-use Rattle.knx_base.specs.Decimal.{IsDecimal, decimal_up_to}
-use Rattle.knx_base.specs.Address.{IndividualParts, IsIndividual, ThreeParts, TwoParts, IsGroup, parts_text, pieces_of, individual_value, individual_parts, individual_of, three_level_value, two_level_value, group_parts, group_of, individual_text, group_text}
+use Rattle.knx_base.specs.Decimal.{decimal_up_to}
+use Rattle.knx_base.specs.Address.{IsIndividual, IsGroup, parts_text, pieces_of, individual_value, individual_parts, individual_of, three_level_value, two_level_value, group_parts, group_of, individual_text, group_text}
 use Rattle.knx_base.proofs.DecimalLemmas.{decimal_up_to-is, decimal_up_to-decimal}
 use Rattle.knx_base.proofs.Pieces.{joined, joined-pieces_of, some_piece, pieces_of-lacking, pieces_of-append, decimal_lacks, decimal_up_to-pieces}
 

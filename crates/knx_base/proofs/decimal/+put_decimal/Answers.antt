@@ -1,4 +1,4 @@
-use Rattle.std.proofs.Common.{◌≡◌, ◌+◌, ◌++◌, ◌∷◌, [], length, take, ℕ, ap, refl, arith, sym, ◌∙◌, append_assoc, length-append}
+use Rattle.std.proofs.Common.{length, ℕ, ap, arith, ◌∙◌, append_assoc, length-append}
 use Rattle.std.proofs.lemmas.Fmt.{decimal_digit, decimal_step}
 use Rattle.knx_base.proofs.decimal.+put_decimal.Goals as goal
 

@@ -1,4 +1,4 @@
-use Rattle.std.proofs.Common.{true, false, refl, arith, sym, ◌∙◌, ◌^◌, ◌-◌}
+use Rattle.std.proofs.Common.{arith, sym, ◌∙◌, ◌^◌, ◌-◌}
 use Rattle.knx_base.proofs.DecimalLemmas.{decimal_up_to-padded, result_ok-parse}
 use Rattle.knx_base.proofs.decimal.parse_decimal.Goals as goal
 

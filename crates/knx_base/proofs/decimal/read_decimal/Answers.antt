@@ -1,6 +1,6 @@
-use Rattle.std.proofs.Common.{◌≡◌, ℕ, ◌≤◌, ◌<◌, ◌-◌, ◌^◌, ap, ◌∙◌, arith}
-use Rattle.knx_base.specs.Decimal.{IsDecimal, at_most, decimal_up_to}
-use Rattle.knx_base.proofs.DecimalLemmas.{answer_found, answer_none, decimal_answer, at_most-decimal_up_to, decimal_up_to-is, decimal_up_to-decimal}
+use Rattle.std.proofs.Common.{ap, ◌∙◌, arith}
+use Rattle.knx_base.specs.Decimal.{at_most}
+use Rattle.knx_base.proofs.DecimalLemmas.{decimal_answer, at_most-decimal_up_to}
 use Rattle.knx_base.proofs.decimal.read_decimal.Goals as goal
 
 pub returns-clause-number : goal.returns-clause-number

@@ -1,6 +1,4 @@
-use Rattle.std.proofs.Common.{◌≡◌, ℕ, List, length, sym, ◌∙◌, arith, ap, subst}
-use Rattle.knx_base.specs.Shelf.{Stored, FirstAt, seen_in_memory}
-use Rattle.knx_base.specs.Files.{MovesOn}
+use Rattle.std.proofs.Common.{sym, ◌∙◌, arith}
 use Rattle.knx_base.proofs.ShelfLemmas.{length-first, still_first, told_set, moved_on}
 use Rattle.knx_base.proofs.shelf.Shelf.read.Goals as goal
 
