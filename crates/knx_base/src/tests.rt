@@ -1,4 +1,4 @@
-use crate::{Failed, Files, MemFiles, MemSink, Number48, Sink, print_text};
+use crate::{Failed, Files, LineBuf, MemFiles, MemSink, Number48, Sink, print_text};
 use std::test::Fail;
 
 #[test]
@@ -53,4 +53,14 @@ fn the_armed_call_alone_fails(rt: HostRuntime) -> Result<(), Fail> {
     assert_eq!(rt; files.open("name"), Ok(()));
     assert_eq!(rt; files.read(&mut buffer), Ok(1));
     Ok(())
+}
+
+#[test]
+fn a_line_is_put_together(rt: HostRuntime) {
+    let mut line = LineBuf::new();
+    line.text("number ");
+    line.decimal(281_474_976_710_655);
+    line.octet(b' ');
+    line.hex(&[0x0a, 0xf1]);
+    assert_eq!(rt; line.bytes(), b"number 281474976710655 0af1".as_slice());
 }

@@ -1,0 +1,81 @@
+ghost use Rattle.std.specs.Prelude.{◌≡◌, ℕ, ◌+◌, ◌*◌, ◌≤◌, ◌<◌, List, [], ◌∷◌, ◌++◌, length, take};
+ghost use Rattle.std.specs.Fmt.{decimal};
+ghost use Rattle.hex.specs.Hex.{encode_lower};
+
+use crate::decimal::{put_decimal, put_octet};
+use std::marker::Model;
+
+/// The most octets of a line that is written.
+const ROOM: usize = 1024;
+
+/// A line of a report while it is put together, in memory of its own. A contract sees it as its octets.
+#[derive(Drop)]
+pub struct LineBuf {
+    store: [u8; ROOM],
+    len: usize,
+}
+
+impl Model for LineBuf {
+    ghost Value = { List ℕ };
+
+    ghost view = { λ line. take line.len line.store };
+
+    ghost invariant = { λ line. line.len ≤ 1024 };
+}
+
+impl LineBuf {
+    /// An empty line.
+    pub fn new() -> LineBuf
+        ensures empty { result ≡ [] }
+    {
+        LineBuf {
+            store: [0; ROOM],
+            len: 0,
+        }
+    }
+
+    /// What was written so far.
+    pub fn bytes(&self) -> &[u8]
+        ensures octets { result.now ≡ self.now }
+    {
+        &self.store[..self.len]
+    }
+
+    /// Adds one octet.
+    pub fn octet(&mut self, octet: u8)
+        requires room { length self.old + 1 ≤ 1024 }
+        ensures added { self.new ≡ self.old ++ octet ∷ [] }
+    {
+        self.len = put_octet(&mut self.store, self.len, octet);
+    }
+
+    /// Adds a text.
+    pub fn text(&mut self, text: &str)
+        requires room { length self.old + length text.now ≤ 1024 }
+        ensures added { self.new ≡ self.old ++ text.now }
+    {
+        let end = self.len + text.len();
+        self.store[self.len..end].copy_from_slice(text.as_bytes());
+        self.len = end;
+    }
+
+    /// Adds the decimal of a number, at most 20 digits.
+    pub fn decimal(&mut self, number: u64)
+        requires room { length self.old + 20 ≤ 1024 }
+        ensures added { self.new ≡ self.old ++ decimal number }
+        ensures short { length self.new ≤ length self.old + 20 }
+    {
+        self.len = put_decimal(&mut self.store, self.len, number);
+    }
+
+    /// Adds octets in hexadecimal, two digits each, in lower case.
+    pub fn hex(&mut self, octets: &[u8])
+        requires room { length self.old + 2 * length octets.now ≤ 1024 }
+        ensures added { self.new ≡ self.old ++ encode_lower octets.now }
+        ensures length { length self.new ≡ length self.old + 2 * length octets.now }
+    {
+        let end = self.len + 2 * octets.len();
+        let _ = hex::encode_to_slice(octets, &mut self.store[self.len..end]);
+        self.len = end;
+    }
+}
