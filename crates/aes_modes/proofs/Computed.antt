@@ -1,11 +1,13 @@
 -- What a check computes of the tables, for each octet.
-use Rattle.std.proofs.Common.{◌≡◌, ℕ, zero, suc, ◌+◌, ◌*◌, ◌<◌, ◌==◌, nat_lt, Bool, true, ◌&&◌, if◌then◌else◌, List, slice_index, refl, ap, ◌∙◌, arith, inl, inr}
+use Rattle.std.proofs.Common.{◌≡◌, ℕ, zero, suc, ◌+◌, ◌*◌, ◌<◌, ◌==◌, nat_lt, Bool, true, ◌&&◌, if◌then◌else◌, ◌-◌, ◌%◌, List, [], ◌∷◌, slice_index, refl, sym, ap, ◌∙◌, arith, inl, inr}
 use Rattle.std.proofs.lemmas.Bool.{and_parts, cases_lt, eqb-true, ltb-true}
 use Rattle.aes_modes.specs.Octet.{◌⊕◌, product_below, remainder, times, inverse_below, inverse, number_below, affine, sub_byte}
 use Rattle.aes_modes.specs.Cipher.{factor, mixed, round_constant}
 use Rattle.aes_modes.specs.Words.{octet_of}
 use Rattle.aes_modes.proofs.Octets.{octet_of-lt, octet_of-⊕4}
-use Rattle.aes_modes.specs.declared.tables.TheConstants.{ROUND_CONSTANTS, SUBSTITUTED, MIXED0, MIXED1, MIXED2, MIXED3}
+use Rattle.aes_modes.specs.declared.tables.TheConstants.{ROUND_CONSTANTS, SUBSTITUTED, RESTORED, MIXED0, MIXED1, MIXED2, MIXED3, UNMIXED0, UNMIXED1, UNMIXED2, UNMIXED3}
+use Rattle.aes_modes.proofs.Field.{product_of, entry_of, product_of-sums}
+use lib.Bits.{xor_zero_l, xor_zero_r}
 
 -- p holds of each number below n
 abbrev all_below : (ℕ → Bool) → ℕ → Bool
@@ -113,3 +115,167 @@ round_constant_at n lt = (round_constant_parts n lt).0
 
 pub round_constant-lt : (n : ℕ) → n < 10 → round_constant n < 256
 round_constant-lt n lt = rw (round_constant_at n lt) at (round_constant_parts n lt).1
+
+-- ---- the substitution turned back
+
+-- the octet comes back from its substitution, and the substitution from the octet that is restored
+abbrev restores : ℕ → Bool
+restores x =
+    (slice_index RESTORED (slice_index SUBSTITUTED x) == x)
+    && ((slice_index SUBSTITUTED (slice_index RESTORED x) == x) && nat_lt (slice_index RESTORED x) 256)
+
+restores_all : all_below restores 256 ≡ true
+restores_all = refl
+
+restores_parts : (x : ℕ) → x < 256
+    → (slice_index RESTORED (slice_index SUBSTITUTED x) ≡ x) × ((slice_index SUBSTITUTED (slice_index RESTORED x) ≡ x) × (slice_index RESTORED x < 256))
+restores_parts x lt =
+    let there = slice_index RESTORED (slice_index SUBSTITUTED x) == x in
+    let back = slice_index SUBSTITUTED (slice_index RESTORED x) == x in
+    let parts = and_parts there (back && nat_lt (slice_index RESTORED x) 256) (all_below_at restores 256 x restores_all lt) in
+    let rest = and_parts back (nat_lt (slice_index RESTORED x) 256) parts.1 in
+    (eqb-true _ x parts.0, (eqb-true _ x rest.0, ltb-true (slice_index RESTORED x) 256 rest.1))
+
+pub restored : (x : ℕ) → x < 256 → sub_byte (slice_index RESTORED x) ≡ x
+restored x lt =
+    let parts = (restores_parts x lt).1 in
+    sym (substituted (slice_index RESTORED x) parts.1) ∙ parts.0
+
+pub restored-lt : (x : ℕ) → x < 256 → slice_index RESTORED x < 256
+restored-lt x lt = (restores_parts x lt).1.1
+
+pub sub_byte_injective : (x y : ℕ) → x < 256 → y < 256 → sub_byte x ≡ sub_byte y → x ≡ y
+sub_byte_injective x y lx ly e =
+    sym (restores_parts x lx).0
+    ∙ ap (slice_index RESTORED) (substituted x lx ∙ e ∙ sym (substituted y ly))
+    ∙ (restores_parts y ly).0
+
+-- ---- the product of a column turned back
+
+-- the matrix that undoes the one of MixColumns
+abbrev pub unfactor : ℕ → ℕ → ℕ
+unfactor r j = slice_index (14 ∷ 11 ∷ 13 ∷ 9 ∷ []) ((j + 4 - r) % 4)
+
+-- the matrix f and one whose column j takes octets to row i by g i are each other's inverse, in row r
+abbrev undoes : (ℕ → ℕ → ℕ) → (ℕ → ℕ → ℕ) → ℕ → ℕ → ℕ → Bool
+undoes f g j r x = entry_of f g r x == (if r == j then x else 0)
+
+abbrev undoes_rows : (ℕ → ℕ → ℕ) → (ℕ → ℕ → ℕ) → ℕ → ℕ → Bool
+undoes_rows f g j r = all_below (undoes f g j r) 256
+
+abbrev undoes_all : (ℕ → ℕ → ℕ) → (ℕ → ℕ → ℕ) → ℕ → Bool
+undoes_all f g j = all_below (undoes_rows f g j) 4
+
+undone_by : (f g : ℕ → ℕ → ℕ) (j r x : ℕ) → undoes_all f g j ≡ true → r < 4 → x < 256 → entry_of f g r x ≡ (if r == j then x else 0)
+undone_by f g j r x h row lt =
+    eqb-true (entry_of f g r x) (if r == j then x else 0) (all_below_at (undoes f g j r) 256 x (all_below_at (undoes_rows f g j) 4 r h row) lt)
+
+-- row r of the column a, b, c, d
+abbrev pub row_of : ℕ → ℕ → ℕ → ℕ → ℕ → ℕ
+row_of r a b c d = (if r == 0 then a else 0) ⊕ (if r == 1 then b else 0) ⊕ (if r == 2 then c else 0) ⊕ (if r == 3 then d else 0)
+
+undone : (f ga gb gc gd : ℕ → ℕ → ℕ) (r a b c d : ℕ)
+    → undoes_all f ga 0 ≡ true → undoes_all f gb 1 ≡ true → undoes_all f gc 2 ≡ true → undoes_all f gd 3 ≡ true
+    → r < 4 → a < 256 → b < 256 → c < 256 → d < 256
+    → product_of f r (ga 0 a ⊕ gb 0 b ⊕ gc 0 c ⊕ gd 0 d) (ga 1 a ⊕ gb 1 b ⊕ gc 1 c ⊕ gd 1 d)
+        (ga 2 a ⊕ gb 2 b ⊕ gc 2 c ⊕ gd 2 d) (ga 3 a ⊕ gb 3 b ⊕ gc 3 c ⊕ gd 3 d)
+    ≡ row_of r a b c d
+undone f ga gb gc gd r a b c d ha hb hc hd row la lb lc ld =
+    product_of-sums f ga gb gc gd r a b c d
+    ∙ (λ i. undone_by f ga 0 r a ha row la i ⊕ undone_by f gb 1 r b hb row lb i ⊕ undone_by f gc 2 r c hc row lc i ⊕ undone_by f gd 3 r d hd row ld i)
+
+-- ---- by tables: the product of the columns that they give is the octet in its row
+
+abbrev unmixing : List ℕ → ℕ → ℕ → ℕ
+unmixing t i x = octet_of (slice_index t x) i
+
+unmixes0 : undoes_all factor (unmixing UNMIXED0) 0 ≡ true
+unfolding product_below remainder times
+unmixes0 = refl
+
+unmixes1 : undoes_all factor (unmixing UNMIXED1) 1 ≡ true
+unfolding product_below remainder times
+unmixes1 = refl
+
+unmixes2 : undoes_all factor (unmixing UNMIXED2) 2 ≡ true
+unfolding product_below remainder times
+unmixes2 = refl
+
+unmixes3 : undoes_all factor (unmixing UNMIXED3) 3 ≡ true
+unfolding product_below remainder times
+unmixes3 = refl
+
+-- the column of one look-up in each table, for the column word: its product is that column
+pub unmixed_octet : (r w0 w1 w2 w3 word : ℕ) → r < 4
+    → w0 ≡ slice_index UNMIXED0 (octet_of word 0) → w1 ≡ slice_index UNMIXED1 (octet_of word 1)
+    → w2 ≡ slice_index UNMIXED2 (octet_of word 2) → w3 ≡ slice_index UNMIXED3 (octet_of word 3)
+    → let u = w0 ⊕ w1 ⊕ w2 ⊕ w3 in
+    mixed r (octet_of u 0) (octet_of u 1) (octet_of u 2) (octet_of u 3)
+    ≡ row_of r (octet_of word 0) (octet_of word 1) (octet_of word 2) (octet_of word 3)
+unmixed_octet r w0 w1 w2 w3 word row e0 e1 e2 e3 =
+    let at : (i : ℕ) → octet_of (w0 ⊕ w1 ⊕ w2 ⊕ w3) i
+        ≡ unmixing UNMIXED0 i (octet_of word 0) ⊕ unmixing UNMIXED1 i (octet_of word 1)
+        ⊕ unmixing UNMIXED2 i (octet_of word 2) ⊕ unmixing UNMIXED3 i (octet_of word 3) =
+    λ i. octet_of-⊕4 w0 w1 w2 w3 i ∙ (λ k. octet_of (e0 k) i ⊕ octet_of (e1 k) i ⊕ octet_of (e2 k) i ⊕ octet_of (e3 k) i) in
+    (λ k. mixed r (at 0 k) (at 1 k) (at 2 k) (at 3 k))
+    ∙ undone factor (unmixing UNMIXED0) (unmixing UNMIXED1) (unmixing UNMIXED2) (unmixing UNMIXED3) r
+      (octet_of word 0) (octet_of word 1) (octet_of word 2) (octet_of word 3) unmixes0 unmixes1 unmixes2 unmixes3 row
+      (octet_of-lt word 0) (octet_of-lt word 1) (octet_of-lt word 2) (octet_of-lt word 3)
+
+-- ---- by the matrix: a column comes back from its product
+
+abbrev mixing : ℕ → ℕ → ℕ → ℕ
+mixing j i x = times (factor i j) x
+
+undoes0 : undoes_all unfactor (mixing 0) 0 ≡ true
+unfolding product_below remainder times
+undoes0 = refl
+
+undoes1 : undoes_all unfactor (mixing 1) 1 ≡ true
+unfolding product_below remainder times
+undoes1 = refl
+
+undoes2 : undoes_all unfactor (mixing 2) 2 ≡ true
+unfolding product_below remainder times
+undoes2 = refl
+
+undoes3 : undoes_all unfactor (mixing 3) 3 ≡ true
+unfolding product_below remainder times
+undoes3 = refl
+
+pub unmixed : (r a b c d : ℕ) → r < 4 → a < 256 → b < 256 → c < 256 → d < 256
+    → product_of unfactor r (mixed 0 a b c d) (mixed 1 a b c d) (mixed 2 a b c d) (mixed 3 a b c d) ≡ row_of r a b c d
+unmixed r a b c d row la lb lc ld =
+    undone unfactor (mixing 0) (mixing 1) (mixing 2) (mixing 3) r a b c d undoes0 undoes1 undoes2 undoes3 row la lb lc ld
+
+pub row_of-0 : (a b c d : ℕ) → row_of 0 a b c d ≡ a
+row_of-0 a b c d = xor_zero_r ((a ⊕ 0) ⊕ 0) ∙ xor_zero_r (a ⊕ 0) ∙ xor_zero_r a
+
+pub row_of-1 : (a b c d : ℕ) → row_of 1 a b c d ≡ b
+row_of-1 a b c d = xor_zero_r ((0 ⊕ b) ⊕ 0) ∙ xor_zero_r (0 ⊕ b) ∙ xor_zero_l b
+
+pub row_of-2 : (a b c d : ℕ) → row_of 2 a b c d ≡ c
+row_of-2 a b c d = xor_zero_r ((0 ⊕ 0) ⊕ c) ∙ xor_zero_l c
+
+pub row_of-3 : (a b c d : ℕ) → row_of 3 a b c d ≡ d
+row_of-3 a b c d = xor_zero_l d
+
+-- ---- products are octets
+
+abbrev is_octet : ℕ → ℕ → Bool
+is_octet w x = nat_lt (times w x) 256
+
+abbrev are_octets : ℕ → ℕ → Bool
+are_octets r j = all_below (is_octet (factor r j)) 256
+
+abbrev are_octets_rows : ℕ → Bool
+are_octets_rows r = all_below (are_octets r) 4
+
+are_octets_all : all_below are_octets_rows 4 ≡ true
+unfolding product_below remainder times
+are_octets_all = refl
+
+pub times-lt : (r j x : ℕ) → r < 4 → j < 4 → x < 256 → times (factor r j) x < 256
+times-lt r j x row column lt =
+    ltb-true (times (factor r j) x) 256
+    (all_below_at (is_octet (factor r j)) 256 x (all_below_at (are_octets r) 4 j (all_below_at are_octets_rows 4 r are_octets_all row) column) lt)

@@ -1,3 +1,6 @@
 pub mod Computed
 pub mod Octets
 pub mod Squares
+pub mod Field
+pub mod Injective
+pub mod Chaining

@@ -1,7 +1,9 @@
 -- Blocks: their octets, sums of blocks, and the round keys.
 use Rattle.std.proofs.Common.{◌≡◌, ℕ, zero, suc, ◌+◌, ◌-◌, ◌*◌, ◌%◌, ◌^◌, ◌<◌, ◌≤◌, ◌==◌, if◌then◌else◌, Bool, true, false, List, [], ◌∷◌, length, slice_index, slice_index_or, refl, sym, ap, ◌∙◌, arith, lit<}
-use Rattle.std.proofs.lemmas.Nat.{xor_of_8}
+use Rattle.std.proofs.lemmas.Nat.{xor_comm, xor_of_8}
 use Rattle.std.proofs.lemmas.List.FromFn.{get_or-map-range_with_len}
+use Rattle.std.proofs.lemmas.Grind.{same_number_lists}
+use Rattle.aes_modes.proofs.Field.{⊕_twice}
 use Rattle.aes_modes.specs.Octet.{◌⊕◌, sub_byte}
 use Rattle.aes_modes.specs.Cipher.{entry, square, IsBlock, xor_blocks, round_constant, next_entry, key_expansion}
 use Rattle.aes_modes.specs.Words.{octet_of, block_of, columns_of, schedule_of}
@@ -68,3 +70,36 @@ round_key_at words k whole first n le =
     ap block_of at
     ∙ block_of-columns_of (key_expansion key n) (IsBlock_key_expansion key (IsBlock_block_of (slice_index_or words 0 [])) n le)
     ∙ ap (λ (b : List ℕ). key_expansion b n) first
+
+-- ---- sums of blocks
+
+pub xor_blocks-at : (a b : List ℕ) (i : ℕ) → i < 16 → slice_index (xor_blocks a b) i ≡ slice_index a i ⊕ slice_index b i
+unfolding xor_blocks
+xor_blocks-at a b i lt = get_or-map-range_with_len (λ j. slice_index a j ⊕ slice_index b j) 0 16 i i 0 lt (omega arith)
+
+pub length-xor_blocks : (a b : List ℕ) → length (xor_blocks a b) ≡ 16
+unfolding xor_blocks
+length-xor_blocks a b = refl
+
+-- two lists of 16 numbers with the same numbers at each place
+pub same_blocks : (a b : List ℕ) → length a ≡ 16 → length b ≡ 16 → ((i : ℕ) → i < 16 → slice_index a i ≡ slice_index b i) → a ≡ b
+same_blocks a b la lb h = same_number_lists a b (la ∙ sym lb) (λ i lt. h i (omega arith))
+
+pub xor_blocks_comm : (a b : List ℕ) → xor_blocks a b ≡ xor_blocks b a
+xor_blocks_comm a b =
+    same_blocks (xor_blocks a b) (xor_blocks b a) (length-xor_blocks a b) (length-xor_blocks b a)
+    (λ i lt. xor_blocks-at a b i lt ∙ xor_comm (slice_index a i) (slice_index b i) ∙ sym (xor_blocks-at b a i lt))
+
+pub xor_blocks_twice : (a b : List ℕ) → length a ≡ 16 → xor_blocks (xor_blocks a b) b ≡ a
+xor_blocks_twice a b la =
+    same_blocks (xor_blocks (xor_blocks a b) b) a (length-xor_blocks (xor_blocks a b) b) la
+    (λ i lt. xor_blocks-at (xor_blocks a b) b i lt ∙ ap (λ x. x ⊕ slice_index b i) (xor_blocks-at a b i lt) ∙ ⊕_twice (slice_index a i) (slice_index b i))
+
+pub xor_blocks_cancel : (a b k : List ℕ) → length a ≡ 16 → length b ≡ 16 → xor_blocks a k ≡ xor_blocks b k → a ≡ b
+xor_blocks_cancel a b k la lb e =
+    sym (xor_blocks_twice a k la) ∙ ap (λ x. xor_blocks x k) e ∙ xor_blocks_twice b k lb
+
+pub IsBlock_xor_blocks : (a b : List ℕ) → IsBlock a → IsBlock b → IsBlock (xor_blocks a b)
+unfolding xor_blocks
+IsBlock_xor_blocks a b ha hb =
+    IsBlock_square (λ r c. entry a r c ⊕ entry b r c) (λ r c _ _. xor_of_8 _ _ (ha.octets (r + 4 * c)) (hb.octets (r + 4 * c)))

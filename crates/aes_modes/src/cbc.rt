@@ -25,7 +25,7 @@ pub fn cbc_encrypt(key: &Key128, iv: &[u8; 16], octets: &mut [u8])
 /// the initialization vector (SP 800-38A, 6.2).
 pub fn cbc_decrypt(key: &Key128, iv: &[u8; 16], octets: &mut [u8])
     requires { length octets.old % 16 ≡ 0 }
-    ensures cbc { cbc_of key.now iv.now octets.new ≡ octets.old }
+    ensures encrypts_back { cbc_of key.now iv.now octets.new ≡ octets.old }
     ensures only { (plain : List ℕ) → length plain ≡ length octets.old → AreOctets plain
         → cbc_of key.now iv.now plain ≡ octets.old → octets.new ≡ plain }
 {

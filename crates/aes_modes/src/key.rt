@@ -59,7 +59,7 @@ impl Key128 {
 
     /// Replaces the block by the one block whose cipher it is (FIPS 197, 5.3).
     pub fn decrypt_block(&self, block: &mut [u8; 16])
-        ensures cipher { cipher self.now block.new ≡ block.old }
+        ensures encrypts_back { cipher self.now block.new ≡ block.old }
         ensures only { (plain : List ℕ) → IsBlock plain → cipher self.now plain ≡ block.old → block.new ≡ plain }
     {
         let mut state = undo_last_round(load(block), self.round_keys[10]);

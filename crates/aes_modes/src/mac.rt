@@ -1,6 +1,6 @@
 // CBC-MAC over octets that come in pieces.
 
-ghost use Rattle.std.specs.Prelude.{◌≡◌, List, [], ◌∷◌, ◌++◌, ℕ, ◌%◌, length};
+ghost use Rattle.std.specs.Prelude.{◌≡◌, List, [], ◌∷◌, ◌++◌, ℕ, ◌+◌, ◌%◌, ◌<◌, length};
 ghost use Rattle.std.specs.List.{flat_map};
 ghost use Rattle.aes_modes.specs.Modes.{Holds, mac_of};
 
@@ -45,13 +45,44 @@ impl CbcMac {
     pub fn feed(&mut self, bytes: &[u8])
         ensures { (key fed : List ℕ) → Holds self.old key fed → Holds self.new key (fed ++ bytes.now) }
     {
+        let head = ((BLOCK_LEN - self.used) % BLOCK_LEN).min(bytes.len());
+        let whole = (bytes.len() - head) / BLOCK_LEN;
+        self.feed_octets(&bytes[..head]);
+        self.feed_blocks(&bytes[head..head + BLOCK_LEN * whole]);
+        self.feed_octets(&bytes[head + BLOCK_LEN * whole..]);
+    }
+
+    fn feed_octets(&mut self, bytes: &[u8])
+        ensures used { self.new.used % 16 ≡ (self.old.used + length bytes.now) % 16 }
+        ensures octets { (key fed : List ℕ) → Holds self.old key fed → Holds self.new key (fed ++ bytes.now) }
+    {
         'octets: for octet in bytes {
             self.feed_octet(*octet);
         }
     }
 
+    fn feed_blocks(&mut self, blocks: &[u8])
+        requires whole { length blocks.now % 16 ≡ 0 }
+        requires between { 0 < length blocks.now → self.old.used % 16 ≡ 0 }
+        ensures { (key fed : List ℕ) → Holds self.old key fed → Holds self.new key (fed ++ blocks.now) }
+    {
+        'each: for n in 0..blocks.len() / BLOCK_LEN {
+            self.feed_block(&block_at(blocks, n));
+        }
+    }
+
+    fn feed_block(&mut self, block: &[u8; 16])
+        requires { self.old.used % 16 ≡ 0 }
+        ensures used { self.new.used % 16 ≡ 0 }
+        ensures block { (key fed : List ℕ) → Holds self.old key fed → Holds self.new key (fed ++ block.now) }
+    {
+        xor_block(&mut self.block, block);
+        self.key.encrypt_block(&mut self.block);
+    }
+
     fn feed_octet(&mut self, octet: u8)
-        ensures { (key fed : List ℕ) → Holds self.old key fed → Holds self.new key (fed ++ octet ∷ []) }
+        ensures used { self.new.used % 16 ≡ (self.old.used + 1) % 16 }
+        ensures octet { (key fed : List ℕ) → Holds self.old key fed → Holds self.new key (fed ++ octet ∷ []) }
     {
         self.block[self.used] ^= octet;
         self.used += 1;
