@@ -8,9 +8,9 @@ use Rattle.std.proofs.lemmas.Bool.{cases_lt, cases_eq}
 use Rattle.std.specs.List.{range_with_len}
 use lib.Bits.{xor_zero_l, xor_comm}
 use Rattle.aes_modes.specs.Octet.{◌⊕◌}
-use Rattle.aes_modes.specs.Cipher.{square, xor_blocks, last_round, cipher}
+use Rattle.aes_modes.specs.Cipher.{AreOctets, IsBlock, square, xor_blocks, last_round, cipher}
 use Rattle.aes_modes.specs.Modes.{block_at, chained, cbc_of, zero_block, padded, mac_of, MacState, Holds}
-use Rattle.aes_modes.proofs.Squares.{xor_blocks-at, length-xor_blocks, xor_blocks_comm, same_blocks}
+use Rattle.aes_modes.proofs.Squares.{IsBlock_square, xor_blocks-at, length-xor_blocks, xor_blocks_comm, same_blocks}
 
 -- ---- blocks
 
@@ -21,6 +21,10 @@ block_at-at p n i lt = get_or-map-range_with_len (λ j. slice_index p (16 * n + 
 pub length-block_at : (p : List ℕ) (n : ℕ) → length (block_at p n) ≡ 16
 unfolding block_at
 length-block_at p n = refl
+
+pub IsBlock_block_at : (p : List ℕ) (n : ℕ) → AreOctets p → IsBlock (block_at p n)
+unfolding block_at
+IsBlock_block_at p n h = IsBlock_square (λ r c. slice_index p (16 * n + (r + 4 * c))) (λ r c _ _. h (16 * n + (r + 4 * c)))
 
 -- block n of two lists that are the same there
 pub block_at_same : (p q : List ℕ) (n : ℕ) → ((i : ℕ) → i < 16 → slice_index p (16 * n + i) ≡ slice_index q (16 * n + i)) → block_at p n ≡ block_at q n
@@ -138,7 +142,7 @@ block_more b m c n u x lt lb lm e =
           ∙ xor_comm (slice_index c u) x
           ∙ ap (λ y. y ⊕ slice_index c u) (sym (get_or_push m x 0 (16 * n + u) lm))
           ∙ sym (new u lt)
-        )
+          )
       | inr other ↦
           get_or-set_other b u i (slice_index b u ⊕ x) 0 other
           ∙ old i h
@@ -158,9 +162,9 @@ Holds_octet s k m x h lb lt =
       key = h.key;
       used = omega arith;
       block =
-        block_more s.block m (chained k zero_block m n) n s.used x (omega arith) lb (omega arith) h.block
-        ∙ ap (xor_blocks (block_at (m ++ x ∷ []) n)) (sym (chained-append k m (x ∷ []) n (omega arith)))
-        ∙ ap (λ (q : ℕ). xor_blocks (block_at (m ++ x ∷ []) q) (chained k zero_block (m ++ x ∷ []) q)) (sym next);
+          block_more s.block m (chained k zero_block m n) n s.used x (omega arith) lb (omega arith) h.block
+          ∙ ap (xor_blocks (block_at (m ++ x ∷ []) n)) (sym (chained-append k m (x ∷ []) n (omega arith)))
+          ∙ ap (λ (q : ℕ). xor_blocks (block_at (m ++ x ∷ []) q) (chained k zero_block (m ++ x ∷ []) q)) (sym next);
     }
 
 -- one more octet, at the end of a block
@@ -173,16 +177,16 @@ Holds_last_octet s k m x h lb lt =
     let next : length (m ++ x ∷ []) / 16 ≡ n + 1 = omega arith in
     let block : cipher s.key (slice_set s.block s.used (slice_index s.block s.used ⊕ x)) ≡ chained k zero_block (m ++ x ∷ []) (n + 1) =
     (λ i. cipher (h.key i) (
-      (block_more s.block m (chained k zero_block m n) n s.used x (omega arith) lb (omega arith) h.block
-        ∙ ap (xor_blocks (block_at (m ++ x ∷ []) n)) (sym (chained-append k m (x ∷ []) n (omega arith)))) i))
+    (block_more s.block m (chained k zero_block m n) n s.used x (omega arith) lb (omega arith) h.block
+    ∙ ap (xor_blocks (block_at (m ++ x ∷ []) n)) (sym (chained-append k m (x ∷ []) n (omega arith)))) i))
     ∙ sym (chained_next k zero_block (m ++ x ∷ []) n) in
     record {
       key = h.key;
       used = omega arith;
       block =
-        block
-        ∙ sym (between_blocks k (m ++ x ∷ []) (n + 1) (omega arith))
-        ∙ ap (λ (q : ℕ). xor_blocks (block_at (m ++ x ∷ []) q) (chained k zero_block (m ++ x ∷ []) q)) (sym next);
+          block
+          ∙ sym (between_blocks k (m ++ x ∷ []) (n + 1) (omega arith))
+          ∙ ap (λ (q : ℕ). xor_blocks (block_at (m ++ x ∷ []) q) (chained k zero_block (m ++ x ∷ []) q)) (sym next);
     }
 
 -- one more block
@@ -206,9 +210,9 @@ Holds_block s k m p h lp none =
       key = h.key;
       used = omega arith;
       block =
-        block
-        ∙ sym (between_blocks k (m ++ p) (n + 1) (omega arith))
-        ∙ ap (λ (q : ℕ). xor_blocks (block_at (m ++ p) q) (chained k zero_block (m ++ p) q)) (sym next);
+          block
+          ∙ sym (between_blocks k (m ++ p) (n + 1) (omega arith))
+          ∙ ap (λ (q : ℕ). xor_blocks (block_at (m ++ p) q) (chained k zero_block (m ++ p) q)) (sym next);
     }
 
 -- the end within a block
@@ -252,6 +256,14 @@ take-block p n le =
     ap (λ (i : ℕ). take i p) end
     ∙ sym front
     ∙ ap (λ (l : List ℕ). take (16 * n) p ++ l) (
-      same_blocks (take (16 * n + 16 - 16 * n) (drop (16 * n) p)) (block_at p n) long (length-block_at p n)
-      (λ i lt. get_or-take (16 * n + 16 - 16 * n) (drop (16 * n) p) i 0 (omega arith) ∙ get_or-drop (16 * n) p i 0 ∙ sym (block_at-at p n i lt))
+    same_blocks (take (16 * n + 16 - 16 * n) (drop (16 * n) p)) (block_at p n) long (length-block_at p n)
+    (λ i lt. get_or-take (16 * n + 16 - 16 * n) (drop (16 * n) p) i 0 (omega arith) ∙ get_or-drop (16 * n) p i 0 ∙ sym (block_at-at p n i lt))
     )
+
+-- octet i of the cipher block after n
+pub chained-at : (k iv p : List ℕ) (n i : ℕ) → i < 16
+    → slice_index (chained k iv p ((16 * n + i) / 16 + 1)) ((16 * n + i) % 16) ≡ slice_index (chained k iv p (n + 1)) i
+chained-at k iv p n i lt =
+    let block : (16 * n + i) / 16 ≡ n = omega arith in
+    let place : (16 * n + i) % 16 ≡ i = omega arith in
+    λ j. slice_index (chained k iv p (block j + 1)) (place j)

@@ -178,7 +178,7 @@ undone : (f ga gb gc gd : ℕ → ℕ → ℕ) (r a b c d : ℕ)
     → undoes_all f ga 0 ≡ true → undoes_all f gb 1 ≡ true → undoes_all f gc 2 ≡ true → undoes_all f gd 3 ≡ true
     → r < 4 → a < 256 → b < 256 → c < 256 → d < 256
     → product_of f r (ga 0 a ⊕ gb 0 b ⊕ gc 0 c ⊕ gd 0 d) (ga 1 a ⊕ gb 1 b ⊕ gc 1 c ⊕ gd 1 d)
-        (ga 2 a ⊕ gb 2 b ⊕ gc 2 c ⊕ gd 2 d) (ga 3 a ⊕ gb 3 b ⊕ gc 3 c ⊕ gd 3 d)
+    (ga 2 a ⊕ gb 2 b ⊕ gc 2 c ⊕ gd 2 d) (ga 3 a ⊕ gb 3 b ⊕ gc 3 c ⊕ gd 3 d)
     ≡ row_of r a b c d
 undone f ga gb gc gd r a b c d ha hb hc hd row la lb lc ld =
     product_of-sums f ga gb gc gd r a b c d
@@ -214,13 +214,13 @@ pub unmixed_octet : (r w0 w1 w2 w3 word : ℕ) → r < 4
     ≡ row_of r (octet_of word 0) (octet_of word 1) (octet_of word 2) (octet_of word 3)
 unmixed_octet r w0 w1 w2 w3 word row e0 e1 e2 e3 =
     let at : (i : ℕ) → octet_of (w0 ⊕ w1 ⊕ w2 ⊕ w3) i
-        ≡ unmixing UNMIXED0 i (octet_of word 0) ⊕ unmixing UNMIXED1 i (octet_of word 1)
-        ⊕ unmixing UNMIXED2 i (octet_of word 2) ⊕ unmixing UNMIXED3 i (octet_of word 3) =
+    ≡ unmixing UNMIXED0 i (octet_of word 0) ⊕ unmixing UNMIXED1 i (octet_of word 1)
+    ⊕ unmixing UNMIXED2 i (octet_of word 2) ⊕ unmixing UNMIXED3 i (octet_of word 3) =
     λ i. octet_of-⊕4 w0 w1 w2 w3 i ∙ (λ k. octet_of (e0 k) i ⊕ octet_of (e1 k) i ⊕ octet_of (e2 k) i ⊕ octet_of (e3 k) i) in
     (λ k. mixed r (at 0 k) (at 1 k) (at 2 k) (at 3 k))
     ∙ undone factor (unmixing UNMIXED0) (unmixing UNMIXED1) (unmixing UNMIXED2) (unmixing UNMIXED3) r
-      (octet_of word 0) (octet_of word 1) (octet_of word 2) (octet_of word 3) unmixes0 unmixes1 unmixes2 unmixes3 row
-      (octet_of-lt word 0) (octet_of-lt word 1) (octet_of-lt word 2) (octet_of-lt word 3)
+    (octet_of word 0) (octet_of word 1) (octet_of word 2) (octet_of word 3) unmixes0 unmixes1 unmixes2 unmixes3 row
+    (octet_of-lt word 0) (octet_of-lt word 1) (octet_of-lt word 2) (octet_of-lt word 3)
 
 -- ---- by the matrix: a column comes back from its product
 

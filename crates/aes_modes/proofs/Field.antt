@@ -65,8 +65,8 @@ remainder-⊕ p q zero = refl
 remainder-⊕ p q (suc n) =
     let m = 0x11b * 2 ^ n in
     ap (λ x. remainder x n) (
-      ap (λ x. (p ⊕ q) ⊕ x) (coefficient-⊕ m p q (8 + n))
-      ∙ ⊕_interchange p q (m * coefficient p (8 + n)) (m * coefficient q (8 + n))
+    ap (λ x. (p ⊕ q) ⊕ x) (coefficient-⊕ m p q (8 + n))
+    ∙ ⊕_interchange p q (m * coefficient p (8 + n)) (m * coefficient q (8 + n))
     )
     ∙ remainder-⊕ (p ⊕ m * coefficient p (8 + n)) (q ⊕ m * coefficient q (8 + n)) n
 
@@ -100,17 +100,17 @@ entry_of f g r x = product_of f r (g 0 x) (g 1 x) (g 2 x) (g 3 x)
 -- g j i
 pub product_of-sums : (f : ℕ → ℕ → ℕ) (ga gb gc gd : ℕ → ℕ → ℕ) (r a b c d : ℕ)
     → product_of f r (ga 0 a ⊕ gb 0 b ⊕ gc 0 c ⊕ gd 0 d) (ga 1 a ⊕ gb 1 b ⊕ gc 1 c ⊕ gd 1 d)
-        (ga 2 a ⊕ gb 2 b ⊕ gc 2 c ⊕ gd 2 d) (ga 3 a ⊕ gb 3 b ⊕ gc 3 c ⊕ gd 3 d)
+    (ga 2 a ⊕ gb 2 b ⊕ gc 2 c ⊕ gd 2 d) (ga 3 a ⊕ gb 3 b ⊕ gc 3 c ⊕ gd 3 d)
     ≡ entry_of f ga r a ⊕ entry_of f gb r b ⊕ entry_of f gc r c ⊕ entry_of f gd r d
 product_of-sums f ga gb gc gd r a b c d =
     let row : (i : ℕ) → times (f r i) (ga i a ⊕ gb i b ⊕ gc i c ⊕ gd i d)
-        ≡ times (f r i) (ga i a) ⊕ times (f r i) (gb i b) ⊕ times (f r i) (gc i c) ⊕ times (f r i) (gd i d) =
+    ≡ times (f r i) (ga i a) ⊕ times (f r i) (gb i b) ⊕ times (f r i) (gc i c) ⊕ times (f r i) (gd i d) =
     λ i. times-⊕4 (f r i) (ga i a) (gb i b) (gc i c) (gd i d) in
     let t : (ℕ → ℕ → ℕ) → ℕ → ℕ → ℕ = λ g i x. times (f r i) (g i x) in
     (λ k. row 0 k ⊕ row 1 k ⊕ row 2 k ⊕ row 3 k)
     ∙ ap (λ x. x ⊕ (t ga 2 a ⊕ t gb 2 b ⊕ t gc 2 c ⊕ t gd 2 d) ⊕ (t ga 3 a ⊕ t gb 3 b ⊕ t gc 3 c ⊕ t gd 3 d))
-      (⊕4_interchange (t ga 0 a) (t gb 0 b) (t gc 0 c) (t gd 0 d) (t ga 1 a) (t gb 1 b) (t gc 1 c) (t gd 1 d))
+    (⊕4_interchange (t ga 0 a) (t gb 0 b) (t gc 0 c) (t gd 0 d) (t ga 1 a) (t gb 1 b) (t gc 1 c) (t gd 1 d))
     ∙ ap (λ x. x ⊕ (t ga 3 a ⊕ t gb 3 b ⊕ t gc 3 c ⊕ t gd 3 d))
-      (⊕4_interchange (t ga 0 a ⊕ t ga 1 a) (t gb 0 b ⊕ t gb 1 b) (t gc 0 c ⊕ t gc 1 c) (t gd 0 d ⊕ t gd 1 d) (t ga 2 a) (t gb 2 b) (t gc 2 c) (t gd 2 d))
+    (⊕4_interchange (t ga 0 a ⊕ t ga 1 a) (t gb 0 b ⊕ t gb 1 b) (t gc 0 c ⊕ t gc 1 c) (t gd 0 d ⊕ t gd 1 d) (t ga 2 a) (t gb 2 b) (t gc 2 c) (t gd 2 d))
     ∙ ⊕4_interchange (t ga 0 a ⊕ t ga 1 a ⊕ t ga 2 a) (t gb 0 b ⊕ t gb 1 b ⊕ t gb 2 b) (t gc 0 c ⊕ t gc 1 c ⊕ t gc 2 c) (t gd 0 d ⊕ t gd 1 d ⊕ t gd 2 d)
-      (t ga 3 a) (t gb 3 b) (t gc 3 c) (t gd 3 d)
+    (t ga 3 a) (t gb 3 b) (t gc 3 c) (t gd 3 d)

@@ -29,7 +29,7 @@ unfolding mix_columns
 IsBlock_mix_columns s h =
     IsBlock_square (λ r c. mixed r (entry s 0 c) (entry s 1 c) (entry s 2 c) (entry s 3 c))
     (λ r c row _. mixed-lt r (entry s 0 c) (entry s 1 c) (entry s 2 c) (entry s 3 c) row
-        (h.octets (0 + 4 * c)) (h.octets (1 + 4 * c)) (h.octets (2 + 4 * c)) (h.octets (3 + 4 * c)))
+    (h.octets (0 + 4 * c)) (h.octets (1 + 4 * c)) (h.octets (2 + 4 * c)) (h.octets (3 + 4 * c)))
 
 IsBlock_shifted : (s : List ℕ) → IsBlock s → IsBlock (shift_rows (sub_bytes s))
 IsBlock_shifted s h = IsBlock_shift_rows (sub_bytes s) (IsBlock_sub_bytes s h)
@@ -68,11 +68,11 @@ unfolding mix_columns
 mix_columns_injective s t hs ht e =
     let at : (i : ℕ) → slice_index (mix_columns s) i ≡ slice_index (mix_columns t) i = λ i. ap (λ (b : List ℕ). slice_index b i) e in
     let column : (c : ℕ)
-        → mixed 0 (entry s 0 c) (entry s 1 c) (entry s 2 c) (entry s 3 c) ≡ mixed 0 (entry t 0 c) (entry t 1 c) (entry t 2 c) (entry t 3 c)
-        → mixed 1 (entry s 0 c) (entry s 1 c) (entry s 2 c) (entry s 3 c) ≡ mixed 1 (entry t 0 c) (entry t 1 c) (entry t 2 c) (entry t 3 c)
-        → mixed 2 (entry s 0 c) (entry s 1 c) (entry s 2 c) (entry s 3 c) ≡ mixed 2 (entry t 0 c) (entry t 1 c) (entry t 2 c) (entry t 3 c)
-        → mixed 3 (entry s 0 c) (entry s 1 c) (entry s 2 c) (entry s 3 c) ≡ mixed 3 (entry t 0 c) (entry t 1 c) (entry t 2 c) (entry t 3 c)
-        → (entry s 0 c ≡ entry t 0 c) × (entry s 1 c ≡ entry t 1 c) × (entry s 2 c ≡ entry t 2 c) × (entry s 3 c ≡ entry t 3 c) =
+    → mixed 0 (entry s 0 c) (entry s 1 c) (entry s 2 c) (entry s 3 c) ≡ mixed 0 (entry t 0 c) (entry t 1 c) (entry t 2 c) (entry t 3 c)
+    → mixed 1 (entry s 0 c) (entry s 1 c) (entry s 2 c) (entry s 3 c) ≡ mixed 1 (entry t 0 c) (entry t 1 c) (entry t 2 c) (entry t 3 c)
+    → mixed 2 (entry s 0 c) (entry s 1 c) (entry s 2 c) (entry s 3 c) ≡ mixed 2 (entry t 0 c) (entry t 1 c) (entry t 2 c) (entry t 3 c)
+    → mixed 3 (entry s 0 c) (entry s 1 c) (entry s 2 c) (entry s 3 c) ≡ mixed 3 (entry t 0 c) (entry t 1 c) (entry t 2 c) (entry t 3 c)
+    → (entry s 0 c ≡ entry t 0 c) × (entry s 1 c ≡ entry t 1 c) × (entry s 2 c ≡ entry t 2 c) × (entry s 3 c ≡ entry t 3 c) =
     λ c. mixed_injective (entry s 0 c) (entry s 1 c) (entry s 2 c) (entry s 3 c) (entry t 0 c) (entry t 1 c) (entry t 2 c) (entry t 3 c)
     (hs.octets (0 + 4 * c)) (hs.octets (1 + 4 * c)) (hs.octets (2 + 4 * c)) (hs.octets (3 + 4 * c))
     (ht.octets (0 + 4 * c)) (ht.octets (1 + 4 * c)) (ht.octets (2 + 4 * c)) (ht.octets (3 + 4 * c)) in
@@ -128,4 +128,4 @@ round_injective s t k hs ht e =
     let hv = IsBlock_shifted t ht in
     shifted_injective s t hs ht
     (mix_columns_injective u v hu hv
-        (xor_blocks_cancel (mix_columns u) (mix_columns v) k (IsBlock_mix_columns u hu).length (IsBlock_mix_columns v hv).length e))
+    (xor_blocks_cancel (mix_columns u) (mix_columns v) k (IsBlock_mix_columns u hu).length (IsBlock_mix_columns v hv).length e))

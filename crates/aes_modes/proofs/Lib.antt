@@ -4,3 +4,4 @@ pub mod Squares
 pub mod Field
 pub mod Injective
 pub mod Chaining
+pub mod Streams

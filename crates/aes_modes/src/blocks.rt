@@ -1,7 +1,7 @@
 // Blocks of sixteen octets, and their places in a slice.
 
 ghost use Rattle.std.specs.Prelude.{◌≡◌, ℕ, ◌+◌, ◌*◌, ◌<◌, ◌≤◌, length, slice_index};
-ghost use Rattle.aes_modes.specs.Cipher.{xor_blocks};
+ghost use Rattle.aes_modes.specs.Cipher.{AreOctets, xor_blocks};
 ghost use Rattle.aes_modes.specs.Modes.{block_at};
 
 pub(crate) const BLOCK_LEN: usize = 16;
@@ -19,7 +19,8 @@ pub(crate) fn xor_block(block: &mut [u8; 16], other: &[u8; 16])
 #[inline(always)]
 pub(crate) fn block_at(octets: &[u8], n: usize) -> [u8; 16]
     requires { 16 * n + 16 ≤ length octets.now }
-    ensures { result ≡ block_at octets.now n }
+    ensures block { result ≡ block_at octets.now n }
+    ensures octets { AreOctets result }
 {
     let mut block = [0; 16];
     block.copy_from_slice(&octets[BLOCK_LEN * n..BLOCK_LEN * n + BLOCK_LEN]);

@@ -17,7 +17,7 @@ rounds-init c =
     record {
       back = λ b e. ap (λ (s : List ℕ). last_round s (key_expansion k 10)) e ∙ undone;
       only = λ b h e. last_round_injective (rounds k b 9) (block_of state) (key_expansion k 10)
-      (IsBlock_rounds k b is_key h 9 (omega arith)) (IsBlock_block_of state) (e ∙ sym undone);
+          (IsBlock_rounds k b is_key h 9 (omega arith)) (IsBlock_block_of state) (e ∙ sym undone);
     }
 
 pub rounds-preserved : goal.rounds-preserved
@@ -36,8 +36,8 @@ rounds-preserved c =
     record {
       back = λ b e. c.rounds.invariant.back b (step b ∙ ap (λ (s : List ℕ). round s (key_expansion k (10 - n))) e ∙ undone);
       only = λ b h e. round_injective (rounds k b (10 - (n + 1))) (block_of before) (key_expansion k (10 - n))
-      (IsBlock_rounds k b is_key h (10 - (n + 1)) (omega arith)) (IsBlock_block_of before)
-      (sym (step b) ∙ c.rounds.invariant.only b h e ∙ sym undone);
+          (IsBlock_rounds k b is_key h (10 - (n + 1)) (omega arith)) (IsBlock_block_of before)
+          (sym (step b) ∙ c.rounds.invariant.only b h e ∙ sym undone);
     }
 
 -- what is written is the state with the first round key added
@@ -53,9 +53,9 @@ returns-clause-encrypts_back c =
     let b = c.store.result in
     let done : 10 - c.rounds.n ≡ 0 = omega arith in
     c.rounds.invariant.back b (
-      ap (rounds k b) done
-      ∙ ap (λ (s : List ℕ). xor_blocks s (key_expansion k 0)) (written c)
-      ∙ xor_blocks_twice (block_of c.rounds.state) (key_expansion k 0) refl
+    ap (rounds k b) done
+    ∙ ap (λ (s : List ℕ). xor_blocks s (key_expansion k 0)) (written c)
+    ∙ xor_blocks_twice (block_of c.rounds.state) (key_expansion k 0) refl
     )
 
 pub returns-clause-only : goal.returns-clause-only
