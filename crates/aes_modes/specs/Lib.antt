@@ -1,0 +1,4 @@
+pub mod Octet
+pub mod Cipher
+pub mod Words
+pub mod Modes

@@ -1,0 +1,56 @@
+-- Modes of operation of AES-128 over a list of octets: CBC (SP 800-38A, section 6.2), CBC-MAC, and a
+-- counter stream (SP 800-38A, section 6.5).
+use Rattle.std.specs.Prelude.{◌≡◌, ℕ, zero, suc, ◌+◌, ◌-◌, ◌*◌, ◌/◌, ◌%◌, List, ◌++◌, length, map, replicate, slice_index, slice_set}
+use Rattle.std.specs.List.{range_with_len}
+use Rattle.aes_modes.specs.Octet.{◌⊕◌}
+use Rattle.aes_modes.specs.Cipher.{square, xor_blocks, cipher}
+
+-- block i of the octets p, with zeros past their end
+unfoldable pub block_at : List ℕ → ℕ → List ℕ
+block_at p i = square (λ r c. slice_index p (16 * i + (r + 4 * c)))
+
+-- the last of the first n cipher blocks: each is the cipher of the XOR of a plain block and the
+-- cipher block before it, which for the first is the initialization vector
+unfoldable pub chained : List ℕ → List ℕ → List ℕ → ℕ → List ℕ
+chained k iv p zero = iv
+chained k iv p (suc n) = cipher k (xor_blocks (block_at p n) (chained k iv p n))
+
+-- CBC: the cipher blocks of the whole blocks p, one after the other
+unfoldable pub cbc_of : List ℕ → List ℕ → List ℕ → List ℕ
+cbc_of k iv p =
+    map (λ j. slice_index (chained k iv p (j / 16 + 1)) (j % 16)) (range_with_len 0 (length p))
+
+-- sixteen zeros
+abbrev pub zero_block : List ℕ
+zero_block = replicate 16 0
+
+-- the octets m, filled with zeros to whole blocks
+unfoldable pub padded : List ℕ → List ℕ
+padded m = m ++ replicate ((16 - length m % 16) % 16) 0
+
+-- CBC-MAC: the last cipher block of the filled octets, from sixteen zeros
+unfoldable pub mac_of : List ℕ → List ℕ → List ℕ
+mac_of k m = chained k zero_block (padded m) (length (padded m) / 16)
+
+-- octet j of the counter stream: that of the cipher of block j / 16, which has its number in its last
+-- octet and the octets of ctr0 before
+unfoldable pub stream_of : List ℕ → List ℕ → ℕ → ℕ
+stream_of k ctr0 j = slice_index (cipher k (slice_set ctr0 15 (j / 16))) (j % 16)
+
+-- the octets p, each with its octet of the stream added
+unfoldable pub with_stream : List ℕ → List ℕ → List ℕ → List ℕ
+with_stream k ctr0 p =
+    map (λ j. slice_index p j ⊕ stream_of k ctr0 j) (range_with_len 0 (length p))
+
+-- what a contract sees of a CbcMac: its key, the block that is enciphered next, and how many octets
+-- it has taken into that block
+pub record MacState : Type 0 where
+  pub key : List ℕ
+  pub block : List ℕ
+  pub used : ℕ
+
+-- the state of a CBC-MAC under the key k that was fed the octets m
+pub record Holds (s : MacState) (k m : List ℕ) : Type 0 where
+  pub key : s.key ≡ k
+  pub used : s.used ≡ length m % 16
+  pub block : s.block ≡ xor_blocks (block_at m (length m / 16)) (chained k zero_block m (length m / 16))
