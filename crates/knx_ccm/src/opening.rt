@@ -1,0 +1,73 @@
+ghost use Rattle.std.specs.Prelude.{◌≡◌, ◌≢◌, ◌≤◌, ◌+◌, ◌-◌, ℕ, List, ◌++◌, length, take, drop, replicate, IfOk, IfErr};
+ghost use Rattle.std.specs.Result.{IsOkAnd};
+ghost use Rattle.knx_ccm.specs.Sealing.{algorithm, ciphered, Opens, AreCodes};
+
+use crate::Head;
+use crate::code::{CODE_LEN, cipher, code};
+use crate::sealing::{MOST_APDU, join};
+use aes_modes::Key128;
+
+/// No APDU seals to the octets: the code that they say and the one of the APDU beside it differ.
+#[derive(Clone, Copy, Debug, PartialEq, Eq)]
+pub struct CodeDiffers {
+    /// the code on the wire, as it is where the APDU is readable, and decrypted where it is encrypted
+    pub said: [u8; 4],
+    /// the code of the APDU on the wire
+    pub computed: [u8; 4],
+}
+
+/// Writes the one APDU that seals to `body` and answers its length, four less than that of `body`.
+///
+/// Where no APDU seals to it, `out` has zeros in the place of the APDU.
+pub fn open(key: &Key128, head: &Head, body: &[u8], out: &mut [u8]) -> Result<usize, CodeDiffers>
+    requires algorithm { algorithm head.now ≤ 1 }
+    requires code { 4 ≤ length body.now }
+    requires short { length body.now ≤ 246 }
+    requires room { length body.now ≤ length out.old + 4 }
+    ensures length { IfOk result (λ n. n + 4 ≡ length body.now) }
+    ensures opened { IfOk result (λ n. Opens key.now head.now body.now (take n out.new)) }
+
+    // The call is answered by Ok wherever an APDU seals to the body, and at most one does.
+    ensures only { (apdu : List ℕ) → Opens key.now head.now body.now apdu → IsOkAnd result (λ n. take n out.new ≡ apdu) }
+    ensures differ { IfErr result (λ codes. codes.said ≢ codes.computed) }
+    ensures codes { IfErr result (λ codes. AreCodes key.now head.now body.now codes.said codes.computed) }
+    ensures zeros { IfErr result (λ _. take (length body.now - 4) out.new ≡ replicate (length body.now - 4) 0) }
+    ensures rest { drop (length body.now - 4) out.new ≡ drop (length body.now - 4) out.old }
+{
+    let length = body.len() - CODE_LEN;
+    let mut store = [0; CODE_LEN + MOST_APDU];
+    let line = &mut store[..body.len()];
+    decrypt(key, head, body, line);
+    let said = front(line);
+    let apdu = &line[CODE_LEN..];
+    let computed = code(key, head, apdu);
+    if said == computed {
+        out[..length].copy_from_slice(apdu);
+        Ok(length)
+    } else {
+        out[..length].fill(0);
+        Err(CodeDiffers { said, computed })
+    }
+}
+
+// Writes the code and the APDU that are on the wire, without the stream.
+fn decrypt(key: &Key128, head: &Head, body: &[u8], line: &mut [u8])
+    requires code { 4 ≤ length body.now }
+    requires short { length body.now ≤ 246 }
+    requires same { length body.now ≡ length line.old }
+    ensures { line.new ≡ ciphered key.now head.now (drop (length body.now - 4) body.now ++ take (length body.now - 4) body.now) }
+{
+    let length = body.len() - CODE_LEN;
+    join(line, &body[length..], &body[..length]);
+    cipher(key, head, line);
+}
+
+// The code at the front.
+fn front(line: &[u8]) -> [u8; CODE_LEN]
+    requires { 4 ≤ length line.now }
+    ensures { result ≡ take 4 line.now }
+{
+    let mut code = [0; CODE_LEN];
+    code.copy_from_slice(&line[..CODE_LEN]);
+    code
+}
