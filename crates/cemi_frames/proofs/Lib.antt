@@ -1,0 +1,2 @@
+mod Info
+mod FirstFault

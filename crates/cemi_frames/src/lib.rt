@@ -1,0 +1,9 @@
+//! Frames of a KNX twisted pair line as a recorder or an interface hands them over: cEMI messages
+//! (KNX common external message interface) of data, and raw TP1 frames from a bus monitor.
+#![tactic(auto)]
+
+mod frame;
+mod reading;
+
+pub use frame::{Code, Frame, NotFrame};
+pub use reading::read_frame;

@@ -1,0 +1,211 @@
+ghost use Rattle.std.specs.Prelude.{◌≡◌, ℕ, ◌+◌, ◌/◌, ◌%◌, ◌<◌, ◌≤◌, [], ◌∷◌, length, MatchResult, MatchOption, true, false, IfOk, None, Some, slice_index, slice_range};
+ghost use Rattle.cemi_frames.specs.Fields.{check_octet};
+ghost use Rattle.cemi_frames.specs.Frames.{IsFrame, telegram, repeat_mark};
+ghost use Rattle.cemi_frames.specs.Faults.{frame_fault, misfit, first_of, head_tests, data_tests, standard_tests, extended_tests, raw_tests, body_of, check_test, is_code};
+ghost use Rattle.cemi_frames.specs.Reading.{Reads, IsMisfit, FitsRow, code_at, data_frame, standard_frame, extended_frame, raw_frame, frame_at};
+
+use crate::frame::{Code, Frame, NotFrame};
+use knx_base::IndAddr;
+
+/// The frame that the octets are, or the first fault. Its content is a part of the octets.
+pub fn read_frame(octets: &[u8]) -> Result<Frame<'_>, NotFrame>
+    ensures exact { Reads result (frame_fault octets.now) (frame_at octets.now) }
+{
+    let (code, body) = read_head(octets)?;
+    match code {
+        Code::Busmon => read_raw(body, octets.len()),
+        _ => read_data(code, body, octets.len()),
+    }
+}
+
+// The message code, and what stands after the additional information.
+#[tactic(auto, unfolding(crate::specs::Faults::head_tests))]
+fn read_head(octets: &[u8]) -> Result<(Code, &[u8]), NotFrame>
+    ensures head { MatchResult result (λ head. (first_of (head_tests octets.now) ≡ None) × (head.0 ≡ code_at (slice_index octets.now 0)) × (head.1.now ≡ body_of octets.now)) (λ e. first_of (head_tests octets.now) ≡ Some e) }
+{
+    let [first, after @ ..] = octets else {
+        return Err(NotFrame::Short(0));
+    };
+    let Some(code) = code_of(*first) else {
+        return Err(NotFrame::Code(*first));
+    };
+    let [size, after @ ..] = after else {
+        return Err(NotFrame::Short(1));
+    };
+    let size = *size as usize;
+    if after.len() < size {
+        return Err(NotFrame::Short(octets.len()));
+    }
+    let (info, body) = after.split_at(size);
+    match row_misfit(info) {
+        Some(place) => Err(NotFrame::Info(place)),
+        None => Ok((code, body)),
+    }
+}
+
+fn code_of(octet: u8) -> Option<Code>
+    ensures { MatchOption result (is_code octet ≡ false) (λ code. (is_code octet ≡ true) × (code ≡ code_at octet)) }
+{
+    match octet {
+        0x11 => Some(Code::Req),
+        0x29 => Some(Code::Ind),
+        0x2e => Some(Code::Con),
+        0x2b => Some(Code::Busmon),
+        _ => None,
+    }
+}
+
+// The place of the first row that does not fit, where additional information begins at place 2.
+fn row_misfit(info: &[u8]) -> Option<usize>
+    ensures { result ≡ misfit (length info.now) 2 info.now }
+{
+    let mut rest = info;
+    while !rest.is_empty() {
+        let Some(size) = row_size(rest) else {
+            return Some(2 + (info.len() - rest.len()));
+        };
+        rest = &rest[size..];
+    }
+    None
+}
+
+// The octets of the row at the front, if it fits.
+fn row_size(info: &[u8]) -> Option<usize>
+    requires { 0 < length info.now }
+    ensures { MatchOption result (IsMisfit info.now) (λ size. FitsRow info.now size) }
+{
+    let [_, size, ..] = info else {
+        return None;
+    };
+    let size = *size as usize + 2;
+    if info.len() < size {
+        return None;
+    }
+    Some(size)
+}
+
+// A message of data.
+#[tactic(auto, unfolding(crate::specs::Faults::data_tests))]
+fn read_data(code: Code, body: &[u8], whole: usize) -> Result<Frame<'_>, NotFrame>
+    ensures { Reads result (first_of (data_tests whole body.now)) (data_frame code body.now) }
+{
+    let [control, control2, s1, s0, d1, d0, size, content @ ..] = body else {
+        return Err(NotFrame::Short(whole));
+    };
+    if *size == 255 {
+        return Err(NotFrame::Escape);
+    }
+    let wanted = *size as usize + 1;
+    if content.len() != wanted {
+        return Err(NotFrame::Length(wanted, content.len()));
+    }
+    Ok(Frame {
+        code,
+        repeated: matches!(code, Code::Ind | Code::Busmon) && is_marked(*control),
+        priority: priority_of(*control),
+        control2: *control2,
+        source: IndAddr(u16::from_be_bytes([*s1, *s0])),
+        destination: u16::from_be_bytes([*d1, *d0]),
+        content,
+    })
+}
+
+// A raw frame.
+#[tactic(auto, unfolding(crate::specs::Faults::raw_tests, crate::specs::Reading::raw_frame))]
+fn read_raw(raw: &[u8], whole: usize) -> Result<Frame<'_>, NotFrame>
+    ensures { Reads result (first_of (raw_tests whole raw.now)) (raw_frame raw.now) }
+{
+    match raw {
+        [] => Err(NotFrame::Short(whole)),
+        [answer] => Err(NotFrame::Acknowledge(*answer)),
+        [control, ..] => match *control >> 6 {
+            2 => read_standard(raw, whole),
+            0 => read_extended(raw, whole),
+            _ => Err(NotFrame::Format(*control)),
+        },
+    }
+}
+
+#[tactic(auto, unfolding(crate::specs::Faults::standard_tests))]
+fn read_standard(raw: &[u8], whole: usize) -> Result<Frame<'_>, NotFrame>
+    ensures { Reads result (first_of (standard_tests whole raw.now)) (standard_frame raw.now) }
+{
+    let [control, s1, s0, d1, d0, shared, after @ ..] = raw else {
+        return Err(NotFrame::Short(whole));
+    };
+    let wanted = (*shared & 0x0f) as usize + 2;
+    if after.len() != wanted {
+        return Err(NotFrame::Length(wanted, after.len()));
+    }
+    let content = &after[..wanted - 1];
+    test_check(raw)?;
+    Ok(Frame {
+        code: Code::Busmon,
+        repeated: is_marked(*control),
+        priority: priority_of(*control),
+        control2: *shared & 0xf0,
+        source: IndAddr(u16::from_be_bytes([*s1, *s0])),
+        destination: u16::from_be_bytes([*d1, *d0]),
+        content,
+    })
+}
+
+#[tactic(auto, unfolding(crate::specs::Faults::extended_tests))]
+fn read_extended(raw: &[u8], whole: usize) -> Result<Frame<'_>, NotFrame>
+    ensures { Reads result (first_of (extended_tests whole raw.now)) (extended_frame raw.now) }
+{
+    let [control, control2, s1, s0, d1, d0, size, after @ ..] = raw else {
+        return Err(NotFrame::Short(whole));
+    };
+    if *size == 255 {
+        return Err(NotFrame::Escape);
+    }
+    let wanted = *size as usize + 2;
+    if after.len() != wanted {
+        return Err(NotFrame::Length(wanted, after.len()));
+    }
+    let content = &after[..wanted - 1];
+    test_check(raw)?;
+    Ok(Frame {
+        code: Code::Busmon,
+        repeated: is_marked(*control),
+        priority: priority_of(*control),
+        control2: *control2,
+        source: IndAddr(u16::from_be_bytes([*s1, *s0])),
+        destination: u16::from_be_bytes([*d1, *d0]),
+        content,
+    })
+}
+
+// The last octet is the check octet of those before it.
+fn test_check(raw: &[u8]) -> Result<(), NotFrame>
+    requires { 0 < length raw.now }
+    ensures { MatchResult result (λ _. first_of (check_test raw.now ∷ []) ≡ None) (λ e. first_of (check_test raw.now ∷ []) ≡ Some e) }
+{
+    let last = raw.len() - 1;
+    let computed = check_of(&raw[..last]);
+    if raw[last] != computed {
+        return Err(NotFrame::Check(raw[last], computed));
+    }
+    Ok(())
+}
+
+/// The complement of the exclusive or of the octets.
+#[tactic(auto, unfolding(crate::specs::Fields::check_octet))]
+pub(crate) fn check_of(raw: &[u8]) -> u8
+    ensures { result ≡ check_octet raw.now }
+{
+    !raw.iter().fold(0, |sum, octet| sum ^ octet)
+}
+
+fn is_marked(control: u8) -> bool
+    ensures { result ≡ repeat_mark control }
+{
+    control >> 5 & 1 == 0
+}
+
+fn priority_of(control: u8) -> u8
+    ensures { result ≡ control / 4 % 4 }
+{
+    control >> 2 & 3
+}
