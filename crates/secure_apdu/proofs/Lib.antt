@@ -1,0 +1,2 @@
+pub mod SyncLemmas
+pub mod SecureLemmas

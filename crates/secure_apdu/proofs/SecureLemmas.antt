@@ -1,0 +1,107 @@
+-- What is wrong with a secure frame first.
+use Rattle.std.proofs.Common.{◌≡◌, ℕ, ◌+◌, ◌-◌, ◌/◌, ◌%◌, ◌<◌, ◌≤◌, Bool, true, false, cond, List, [], ◌∷◌, ◌++◌, length, take, drop, length-append, Option, Some, None, refl, sym, ap, ◌∙◌, subst, arith}
+use Rattle.std.specs.Prelude.{slice_index, find, option_map, nat_lt, ◌==◌, ◌↔◌, IsTrue}
+use Rattle.std.proofs.lemmas.Bool.{lt-ltb, le-ltb, ltb-false, eq-eqb, eqb-true, false≢true}
+use Rattle.std.proofs.lemmas.List.{length-take-le, get_or_at}
+use Rattle.knx_base.specs.Number.{octets_of}
+use Rattle.knx_base.proofs.NumberLemmas.{length-octets_of}
+use Rattle.secure_apdu.specs.declared.secure.BadSecure.{BadSecure}
+use Rattle.secure_apdu.specs.declared.secure.BadSecure.TheVariants as bad
+use Rattle.secure_apdu.specs.Secure.{Test, test, algorithm_of, field_tests, first_fault, bad_secure, HasParts}
+
+-- the first test decides where it applies, and the others where it does not
+first_applies : (applies : Bool) (fault : BadSecure) (tests : List Test) → applies ≡ true → first_fault (test applies fault ∷ tests) ≡ Some fault
+first_applies applies fault tests is =
+    ap (λ (b : Bool). option_map (λ (found : Test). found.fault) (cond b (Some (test applies fault)) (find (λ (each : Test). each.applies) tests))) is
+
+first_passes : (applies : Bool) (fault : BadSecure) (tests : List Test) → applies ≡ false → first_fault (test applies fault ∷ tests) ≡ first_fault tests
+first_passes applies fault tests is =
+    ap (λ (b : Bool). option_map (λ (found : Test). found.fault) (cond b (Some (test applies fault)) (find (λ (each : Test). each.applies) tests))) is
+
+pub bad_secure-short : (content : List ℕ) (group : Bool) → length content < 15 → bad_secure content group ≡ Some (bad.Short (length content - 2))
+unfolding bad_secure
+bad_secure-short content group short =
+    first_applies (nat_lt (length content - 2) 13) (bad.Short (length content - 2)) (field_tests (slice_index content 2) (length content - 13) group)
+    (lt-ltb (length content - 2) 13 (omega arith))
+
+pub bad_secure-long : (content : List ℕ) (group : Bool) → 15 ≤ length content
+    → bad_secure content group ≡ first_fault (field_tests (slice_index content 2) (length content - 13) group)
+unfolding bad_secure
+bad_secure-long content group long =
+    first_passes (nat_lt (length content - 2) 13) (bad.Short (length content - 2)) (field_tests (slice_index content 2) (length content - 13) group)
+    (le-ltb (length content - 2) 13 (omega arith))
+
+-- an answer to a question on a bit is the test of that bit
+pub same_test : (b : Bool) (n : ℕ) → (IsTrue b ↔ (n ≡ 1)) → b ≡ (n == 1)
+same_test true n says = sym (eq-eqb n 1 (says.0 refl))
+same_test false n says = by_value (n == 1) refl where
+  by_value : (t : Bool) → (n == 1) ≡ t → false ≡ (n == 1)
+  by_value true is = absurd (false≢true (says.1 (eqb-true n 1 is)))
+  by_value false is = sym is
+
+-- the tests after that of the algorithm
+abbrev later_tests : ℕ → ℕ → Bool → List Test
+later_tests field length group = drop 1 (field_tests field length group)
+
+-- no test applies where none is the first
+passes : (applies : Bool) (fault : BadSecure) (tests : List Test) → first_fault (test applies fault ∷ tests) ≡ None
+    → (applies ≡ false) × (first_fault tests ≡ None)
+passes true fault tests none = absurd cc
+passes false fault tests none = (refl, none)
+
+pub faultless_length : (content : List ℕ) (group : Bool) → bad_secure content group ≡ None → 15 ≤ length content
+unfolding bad_secure
+faultless_length content group none =
+    let long = passes (nat_lt (length content - 2) 13) (bad.Short (length content - 2))
+        (field_tests (slice_index content 2) (length content - 13) group) none in
+    omega (arith, ltb-false (length content - 2) 13 long.0)
+
+pub faultless_algorithm : (content : List ℕ) (group : Bool) → bad_secure content group ≡ None
+    → algorithm_of (slice_index content 2) ≤ 1
+unfolding bad_secure
+faultless_algorithm content group none =
+    let long = passes (nat_lt (length content - 2) 13) (bad.Short (length content - 2))
+        (field_tests (slice_index content 2) (length content - 13) group) none in
+    let known = passes (nat_lt 1 (algorithm_of (slice_index content 2))) (bad.Algorithm (algorithm_of (slice_index content 2)))
+        (later_tests (slice_index content 2) (length content - 13) group) long.1 in
+    ltb-false 1 (algorithm_of (slice_index content 2)) known.0
+
+-- the parts of a long content: how long the body is, and where the control field stands
+pub length-parts : (content : List ℕ) (field shown : ℕ) (body : List ℕ) → HasParts content field shown body → 2 ≤ length content
+    → length content ≡ length body + 9
+length-parts content field shown body parts long = omega (
+  arith,
+  ap length parts.spelled,
+  length-append (take 2 content) (field ∷ (octets_of shown ++ body)),
+  length-append (octets_of shown) body,
+  length-octets_of shown,
+  length-take-le 2 content long,
+)
+
+pub field-parts : (content : List ℕ) (field shown : ℕ) (body : List ℕ) → HasParts content field shown body → 2 ≤ length content
+    → slice_index content 2 ≡ field
+field-parts content field shown body parts long =
+    ap (λ (octets : List ℕ). slice_index octets 2) parts.spelled
+    ∙ get_or_at (take 2 content) field (octets_of shown ++ body) 0 2 (length-take-le 2 content long)
+
+pub open_body : (content : List ℕ) (group : Bool) (field shown : ℕ) (body : List ℕ) → bad_secure content group ≡ None
+    → HasParts content field shown body → length content ≤ 255
+    → (algorithm_of field ≤ 1) × (4 ≤ length body) × (length body ≤ 246)
+open_body content group field shown body none parts short =
+    let long = faultless_length content group none in
+    let same = length-parts content field shown body parts (omega (arith, long)) in
+    let stands = field-parts content field shown body parts (omega (arith, long)) in
+    (
+      subst (λ (f : ℕ). algorithm_of f ≤ 1) stands (faultless_algorithm content group none),
+      omega (arith, long, same),
+      omega (arith, short, same),
+    )
+
+-- a long frame has the fault of its control field, by the answer to the question on its destination
+pub bad_secure_from : (content : List ℕ) (group : ℕ) (asked : Bool) (answer : Option BadSecure) → 15 ≤ length content
+    → (IsTrue asked ↔ (group ≡ 1)) → answer ≡ first_fault (field_tests (slice_index content 2) (length content - 13) asked)
+    → bad_secure content (group == 1) ≡ answer
+bad_secure_from content group asked answer long says is =
+    bad_secure-long content (group == 1) long
+    ∙ ap (λ (b : Bool). first_fault (field_tests (slice_index content 2) (length content - 13) b)) (sym (same_test asked group says))
+    ∙ sym is

@@ -1,0 +1,3 @@
+pub mod Secure
+pub mod Sync
+pub mod Opening

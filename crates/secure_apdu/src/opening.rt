@@ -1,0 +1,42 @@
+ghost use Rattle.std.specs.Prelude.{◌≡◌, ◌≢◌, ◌/◌, ◌%◌, ◌==◌, List, ℕ, [], None, OnOk, OnErr, IsOk, IfErr};
+ghost use Rattle.knx_ccm.specs.Sealing.{Opens, AreCodes};
+ghost use Rattle.secure_apdu.specs.Secure.{bad_secure, HasParts};
+ghost use Rattle.secure_apdu.specs.Opening.{head_of};
+
+use crate::{ApduBuf, Secure};
+use aes_modes::Key128;
+use cemi_frames::Frame;
+use knx_base::Number48;
+use knx_ccm::{CodeDiffers, Head, open};
+
+/// Opens a secure frame under a key and a nonce number: `out` has the one APDU that seals to it. After a refusal it is
+/// empty.
+pub fn open_frame(
+    key: &Key128,
+    frame: &Frame<'_>,
+    secure: &Secure<'_>,
+    number: Number48,
+    out: &mut ApduBuf,
+) -> Result<(), CodeDiffers>
+    requires faultless { bad_secure frame.now.content.now (frame.now.control2 / 128 % 2 == 1) ≡ None }
+    requires parts { HasParts frame.now.content.now secure.now.field secure.now.shown secure.now.body.now }
+    ensures opened { OnOk result (Opens key.now (head_of frame.now secure.now.field number) secure.now.body.now out.new) }
+
+    // The call is answered by Ok wherever an APDU seals to the frame, and at most one does.
+    ensures only { (apdu : List ℕ) → Opens key.now (head_of frame.now secure.now.field number) secure.now.body.now apdu → IsOk result × (out.new ≡ apdu) }
+    ensures differ { IfErr result (λ codes. codes.said ≢ codes.computed) }
+    ensures codes { IfErr result (λ codes. AreCodes key.now (head_of frame.now secure.now.field number) secure.now.body.now codes.said codes.computed) }
+    ensures empty { OnErr result (out.new ≡ []) }
+{
+    let head = Head {
+        number,
+        source: frame.source.0,
+        destination: frame.destination,
+        control2: frame.control2,
+        tpci: frame.content[0],
+        field: secure.field,
+    };
+    out.len = 0;
+    out.len = open(key, &head, secure.body, &mut out.store)?;
+    Ok(())
+}

@@ -1,0 +1,27 @@
+ghost use Rattle.std.specs.Prelude.{◌≡◌, ◌++◌};
+ghost use Rattle.knx_base.specs.Number.{octets_of, number_at};
+ghost use Rattle.secure_apdu.specs.Sync.{xor_octets};
+
+use knx_base::Number48;
+
+/// The number whose octets are those of the number XOR the challenge. Twice with one challenge gives the number back.
+pub fn xor_number(challenge: [u8; 6], number: Number48) -> Number48
+    ensures octets { octets_of result ≡ xor_octets challenge (octets_of number) }
+    ensures back { xor_octets challenge (octets_of result) ≡ octets_of number }
+{
+    let [c0, c1, c2, c3, c4, c5] = challenge;
+    let [n0, n1, n2, n3, n4, n5] = number.to_bytes();
+    Number48::from_bytes([c0 ^ n0, c1 ^ n1, c2 ^ n2, c3 ^ n3, c4 ^ n4, c5 ^ n5])
+}
+
+/// The two numbers in the payload of an answer: the one under which it was sealed, and the one that the responder kept.
+pub fn sync_values(payload: &[u8; 12]) -> (Number48, Number48)
+    ensures number { result.0 ≡ number_at payload.now 0 }
+    ensures kept { result.1 ≡ number_at payload.now 6 }
+{
+    let [n0, n1, n2, n3, n4, n5, k0, k1, k2, k3, k4, k5] = *payload;
+    (
+        Number48::from_bytes([n0, n1, n2, n3, n4, n5]),
+        Number48::from_bytes([k0, k1, k2, k3, k4, k5]),
+    )
+}
