@@ -1,12 +1,15 @@
 -- Sealing over plain lists: the code is four octets, and what is on the wire gives back what was put there.
 use Rattle.std.proofs.Common.{◌≡◌, ℕ, ◌+◌, ◌-◌, ◌≤◌, Bool, true, false, cond, List, [], ◌∷◌, ◌++◌, length, take, drop, refl, sym, ap, ◌∙◌, subst, append_assoc, take-append-drop, length-append, length-drop, arith}
 use Rattle.std.proofs.lemmas.List.{take_at, drop_at, take_rest, length-take, length-take-le}
+use Rattle.std.proofs.lemmas.Slice.Eq.{bytes_eq-Decides}
+use Rattle.std.specs.Prelude.{nat_eq, Some, None}
+use Rattle.std.specs.Cmp.Lexicographic.{pointwise}
 use Rattle.std.proofs.Math.Seq.{take-append_seam, drop-append_seam}
 use Rattle.aes_modes.specs.Modes.{mac_of, with_stream}
 use Rattle.aes_modes.proofs.Streams.{length-with_stream, with_stream-twice}
 use Rattle.aes_modes.proofs.Chaining.{length-mac_of}
 use Rattle.knx_ccm.specs.declared.head.Head.{Head}
-use Rattle.knx_ccm.specs.Sealing.{two_octets, is_confidential, block_0, counter_0, encrypted_length, readable_length, code_of, ciphered, wired, sealed, Opens}
+use Rattle.knx_ccm.specs.Sealing.{two_octets, is_confidential, block_0, counter_0, encrypted_length, readable_length, code_of, ciphered, wired, sealed, Opens, line_of, said_apdu, opened}
 
 -- a code by the pieces that are fed
 pub code_from : (key : List ℕ) (head : Head) (apdu first second whole code : List ℕ) (encrypted readable : ℕ)
@@ -42,8 +45,8 @@ ciphered-twice key head octets = by_algorithm (is_confidential head) where
   by_algorithm true = with_stream-twice key (counter_0 head) octets
   by_algorithm false = refl
 
--- the code and the APDU, as they stand before the stream is added, of what is on the wire
-abbrev pub unwired : List ℕ → List ℕ
+-- the code and the APDU, under the stream, of what is on the wire
+abbrev unwired : List ℕ → List ℕ
 unwired body = drop (length body - 4) body ++ take (length body - 4) body
 
 -- a list whose first four octets go to its end comes back
@@ -77,18 +80,18 @@ wired-found key head code apdu body four is =
     ∙ ciphered-twice key head (code ++ apdu)
 
 -- and what is found there was put there
-pub wired-back : (key : List ℕ) (head : Head) (body line : List ℕ) → 4 ≤ length body → line ≡ ciphered key head (unwired body)
+pub wired-back : (key : List ℕ) (head : Head) (body line : List ℕ) → 4 ≤ length body → line ≡ line_of key head body
     → wired key head (take 4 line) (drop 4 line) ≡ body
-unfolding wired
+unfolding wired line_of
 wired-back key head body line long is =
     let same : ciphered key head (take 4 line ++ drop 4 line) ≡ unwired body =
     ap (ciphered key head) (front_and_rest line ∙ is) ∙ ciphered-twice key head (unwired body) in
     (λ i. drop 4 (same i) ++ take 4 (same i)) ∙ turned-unwired body long
 
 -- an APDU that seals to the body is found there, with its code
-pub opens-found : (key : List ℕ) (head : Head) (body line apdu : List ℕ) → line ≡ ciphered key head (unwired body)
+pub opens-found : (key : List ℕ) (head : Head) (body line apdu : List ℕ) → line ≡ line_of key head body
     → Opens key head body apdu → (take 4 line ≡ code_of key head apdu) × (drop 4 line ≡ apdu)
-unfolding sealed
+unfolding sealed line_of
 opens-found key head body line apdu is opens =
     let code = code_of key head apdu in
     let four : length code ≡ 4 = length-code_of key head apdu in
@@ -96,14 +99,15 @@ opens-found key head body line apdu is opens =
     (ap (take 4) whole ∙ take_at code apdu 4 four, ap (drop 4) whole ∙ drop_at code apdu 4 four)
 
 -- where the code is that of the APDU beside it, that APDU seals to the body
-pub opens-back : (key : List ℕ) (head : Head) (body line : List ℕ) → 4 ≤ length body → line ≡ ciphered key head (unwired body)
+pub opens-back : (key : List ℕ) (head : Head) (body line : List ℕ) → 4 ≤ length body → line ≡ line_of key head body
     → take 4 line ≡ code_of key head (drop 4 line) → Opens key head body (drop 4 line)
 unfolding sealed
 opens-back key head body line long is same =
     ap (λ (code : List ℕ). wired key head code (drop 4 line)) (sym same) ∙ wired-back key head body line long is
 
 -- the line of code and APDU is as long as the body
-pub length-line : (key : List ℕ) (head : Head) (body line : List ℕ) → line ≡ ciphered key head (unwired body) → length line ≡ length body
+pub length-line : (key : List ℕ) (head : Head) (body line : List ℕ) → line ≡ line_of key head body → length line ≡ length body
+unfolding line_of
 length-line key head body line is =
     ap length is ∙ length-ciphered key head (unwired body)
     ∙ omega (
@@ -133,3 +137,22 @@ sealed_by key head apdu code joined line out rest is_code is_joined is_line is_o
     let same : length out ≡ length apdu + 4 = ap length is_out
     ∙ omega (arith, length-append (drop 4 line) (take 4 line), length-drop 4 line, length-take 4 line, long) in
     take_at out rest (length apdu + 4) same ∙ is_out ∙ (λ i. drop 4 (whole i) ++ take 4 (whole i))
+
+-- the APDU on the wire opens where it seals to the body
+pub opened-some : (key : List ℕ) (head : Head) (body apdu : List ℕ) → apdu ≡ said_apdu key head body → Opens key head body apdu
+    → opened key head body ≡ Some apdu
+opened-some key head body apdu is opens =
+    let seals : sealed key head (said_apdu key head body) ≡ body = ap (sealed key head) (sym is) ∙ opens in
+    ap (λ (b : Bool). cond b (Some (said_apdu key head body)) None)
+    ((bytes_eq-Decides (sealed key head (said_apdu key head body)) body).1 seals)
+    ∙ ap Some (sym is)
+
+-- nothing opens where no APDU seals to the body
+pub opened-none : (key : List ℕ) (head : Head) (body : List ℕ) → ((apdu : List ℕ) → Opens key head body apdu → ⊥)
+    → opened key head body ≡ None
+opened-none key head body never =
+    by_test (pointwise nat_eq (sealed key head (said_apdu key head body)) body) (bytes_eq-Decides (sealed key head (said_apdu key head body)) body).0
+  where
+    by_test : (b : Bool) → (b ≡ true → sealed key head (said_apdu key head body) ≡ body) → cond b (Some (said_apdu key head body)) None ≡ None
+    by_test true says = absurd (never (said_apdu key head body) (says refl))
+    by_test false says = refl

@@ -1,6 +1,7 @@
 -- Sealing of an APDU of KNX Data Secure: a code by CBC-MAC over its head and octets, and a counter stream over both. Octet
 -- by octet this is the profile of docs/RULES.md.
-use Rattle.std.specs.Prelude.{◌≡◌, ℕ, ◌+◌, ◌/◌, ◌%◌, ◌==◌, bit_and, bit_or, Bool, if◌then◌else◌, List, [], ◌∷◌, ◌++◌, length, take, drop}
+use Rattle.std.specs.Prelude.{◌≡◌, ℕ, ◌+◌, ◌-◌, ◌/◌, ◌%◌, ◌==◌, bit_and, bit_or, Bool, if◌then◌else◌, List, [], ◌∷◌, ◌++◌, length, take, drop, nat_eq, Option, Some, None}
+use Rattle.std.specs.Cmp.Lexicographic.{pointwise}
 use Rattle.knx_base.specs.Number.{octets_of}
 use Rattle.aes_modes.specs.Modes.{mac_of, with_stream}
 use Rattle.knx_ccm.specs.declared.head.Head.{Head}
@@ -62,3 +63,24 @@ pub record AreCodes (key : List ℕ) (head : Head) (body said computed : List �
   pub apdu : List ℕ
   pub on_the_wire : wired key head said apdu ≡ body
   pub of_the_apdu : code_of key head apdu ≡ computed
+
+-- ---- what is on the wire
+
+-- the code and the APDU after it, without the stream
+unfoldable pub line_of : List ℕ → Head → List ℕ → List ℕ
+line_of key head body = ciphered key head (drop (length body - 4) body ++ take (length body - 4) body)
+
+abbrev pub said_code : List ℕ → Head → List ℕ → List ℕ
+said_code key head body = take 4 (line_of key head body)
+
+abbrev pub said_apdu : List ℕ → Head → List ℕ → List ℕ
+said_apdu key head body = drop 4 (line_of key head body)
+
+-- the code of the APDU that is on the wire
+abbrev pub computed_code : List ℕ → Head → List ℕ → List ℕ
+computed_code key head body = code_of key head (said_apdu key head body)
+
+-- the APDU that seals to the body, if one does: no other than the one on the wire can
+abbrev pub opened : List ℕ → Head → List ℕ → Option (List ℕ)
+opened key head body =
+    if pointwise nat_eq (sealed key head (said_apdu key head body)) body then Some (said_apdu key head body) else None

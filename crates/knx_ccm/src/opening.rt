@@ -1,6 +1,6 @@
-ghost use Rattle.std.specs.Prelude.{◌≡◌, ◌≢◌, ◌≤◌, ◌+◌, ◌-◌, ℕ, List, ◌++◌, length, take, drop, replicate, IfOk, IfErr};
+ghost use Rattle.std.specs.Prelude.{◌≡◌, ◌≢◌, ◌≤◌, ◌+◌, ◌-◌, ℕ, List, ◌++◌, length, take, drop, replicate, Some, None, IfOk, IfErr, MatchResult};
 ghost use Rattle.std.specs.Result.{IsOkAnd};
-ghost use Rattle.knx_ccm.specs.Sealing.{algorithm, ciphered, Opens, AreCodes};
+ghost use Rattle.knx_ccm.specs.Sealing.{algorithm, line_of, opened, said_code, computed_code, Opens, AreCodes};
 
 use crate::Head;
 use crate::code::{CODE_LEN, cipher, code};
@@ -31,6 +31,12 @@ pub fn open(key: &Key128, head: &Head, body: &[u8], out: &mut [u8]) -> Result<us
     ensures only { (apdu : List ℕ) → Opens key.now head.now body.now apdu → IsOkAnd result (λ n. take n out.new ≡ apdu) }
     ensures differ { IfErr result (λ codes. codes.said ≢ codes.computed) }
     ensures codes { IfErr result (λ codes. AreCodes key.now head.now body.now codes.said codes.computed) }
+
+    // The same as functions of the key, the head and the body.
+    ensures answer { MatchResult result
+        (λ n. opened key.now head.now body.now ≡ Some (take n out.new))
+        (λ codes. (opened key.now head.now body.now ≡ None)
+        × (codes.said ≡ said_code key.now head.now body.now) × (codes.computed ≡ computed_code key.now head.now body.now)) }
     ensures zeros { IfErr result (λ _. take (length body.now - 4) out.new ≡ replicate (length body.now - 4) 0) }
     ensures rest { drop (length body.now - 4) out.new ≡ drop (length body.now - 4) out.old }
 {
@@ -55,7 +61,7 @@ fn decrypt(key: &Key128, head: &Head, body: &[u8], line: &mut [u8])
     requires code { 4 ≤ length body.now }
     requires short { length body.now ≤ 246 }
     requires same { length body.now ≡ length line.old }
-    ensures { line.new ≡ ciphered key.now head.now (drop (length body.now - 4) body.now ++ take (length body.now - 4) body.now) }
+    ensures { line.new ≡ line_of key.now head.now body.now }
 {
     let length = body.len() - CODE_LEN;
     join(line, &body[length..], &body[..length]);

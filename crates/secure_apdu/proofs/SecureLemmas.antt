@@ -53,7 +53,7 @@ pub faultless_length : (content : List ℕ) (group : Bool) → bad_secure conten
 unfolding bad_secure
 faultless_length content group none =
     let long = passes (nat_lt (length content - 2) 13) (bad.Short (length content - 2))
-        (field_tests (slice_index content 2) (length content - 13) group) none in
+    (field_tests (slice_index content 2) (length content - 13) group) none in
     omega (arith, ltb-false (length content - 2) 13 long.0)
 
 pub faultless_algorithm : (content : List ℕ) (group : Bool) → bad_secure content group ≡ None
@@ -61,9 +61,9 @@ pub faultless_algorithm : (content : List ℕ) (group : Bool) → bad_secure con
 unfolding bad_secure
 faultless_algorithm content group none =
     let long = passes (nat_lt (length content - 2) 13) (bad.Short (length content - 2))
-        (field_tests (slice_index content 2) (length content - 13) group) none in
+    (field_tests (slice_index content 2) (length content - 13) group) none in
     let known = passes (nat_lt 1 (algorithm_of (slice_index content 2))) (bad.Algorithm (algorithm_of (slice_index content 2)))
-        (later_tests (slice_index content 2) (length content - 13) group) long.1 in
+    (later_tests (slice_index content 2) (length content - 13) group) long.1 in
     ltb-false 1 (algorithm_of (slice_index content 2)) known.0
 
 -- the parts of a long content: how long the body is, and where the control field stands
@@ -90,8 +90,7 @@ pub open_body : (content : List ℕ) (group : Bool) (field shown : ℕ) (body : 
 open_body content group field shown body none parts short =
     let long = faultless_length content group none in
     let same = length-parts content field shown body parts (omega (arith, long)) in
-    let stands = field-parts content field shown body parts (omega (arith, long)) in
-    (
+    let stands = field-parts content field shown body parts (omega (arith, long)) in (
       subst (λ (f : ℕ). algorithm_of f ≤ 1) stands (faultless_algorithm content group none),
       omega (arith, long, same),
       omega (arith, short, same),

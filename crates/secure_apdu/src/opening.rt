@@ -1,5 +1,5 @@
-ghost use Rattle.std.specs.Prelude.{◌≡◌, ◌≢◌, ◌/◌, ◌%◌, ◌==◌, List, ℕ, [], None, OnOk, OnErr, IsOk, IfErr};
-ghost use Rattle.knx_ccm.specs.Sealing.{Opens, AreCodes};
+ghost use Rattle.std.specs.Prelude.{◌≡◌, ◌≢◌, ◌/◌, ◌%◌, ◌==◌, List, ℕ, [], Some, None, OnOk, OnErr, IsOk, IfErr, MatchResult};
+ghost use Rattle.knx_ccm.specs.Sealing.{opened, said_code, computed_code, Opens, AreCodes};
 ghost use Rattle.secure_apdu.specs.Secure.{bad_secure, HasParts};
 ghost use Rattle.secure_apdu.specs.Opening.{head_of};
 
@@ -26,6 +26,13 @@ pub fn open_frame(
     ensures only { (apdu : List ℕ) → Opens key.now (head_of frame.now secure.now.field number) secure.now.body.now apdu → IsOk result × (out.new ≡ apdu) }
     ensures differ { IfErr result (λ codes. codes.said ≢ codes.computed) }
     ensures codes { IfErr result (λ codes. AreCodes key.now (head_of frame.now secure.now.field number) secure.now.body.now codes.said codes.computed) }
+
+    // The same as functions of the frame.
+    ensures answer { MatchResult result
+        (λ _. opened key.now (head_of frame.now secure.now.field number) secure.now.body.now ≡ Some out.new)
+        (λ codes. (opened key.now (head_of frame.now secure.now.field number) secure.now.body.now ≡ None)
+        × (codes.said ≡ said_code key.now (head_of frame.now secure.now.field number) secure.now.body.now)
+        × (codes.computed ≡ computed_code key.now (head_of frame.now secure.now.field number) secure.now.body.now)) }
     ensures empty { OnErr result (out.new ≡ []) }
 {
     let head = Head {

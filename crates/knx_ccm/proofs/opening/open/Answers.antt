@@ -1,7 +1,7 @@
 use Rattle.std.proofs.Common.{◌≡◌, ◌≢◌, List, ℕ, take, drop, sym, ap, ◌∙◌, subst, rules}
 use Rattle.std.proofs.lemmas.List.{take_rest}
 use Rattle.knx_ccm.specs.Sealing.{code_of, wired, Opens}
-use Rattle.knx_ccm.proofs.SealingLemmas.{wired-back, opens-found, opens-back, length-line, copied}
+use Rattle.knx_ccm.proofs.SealingLemmas.{wired-back, opens-found, opens-back, length-line, copied, opened-some, opened-none}
 use Rattle.knx_ccm.proofs.opening.open.Goals as goal
 
 pub returns-then-eq-clause-opened : goal.returns-then-eq-clause-opened
@@ -44,3 +44,18 @@ returns-else-eq-clause-codes c =
           ∙ wired-back key head c.args.body.now line c.requires.code c.decrypt.ensures;
       of_the_apdu = ap (code_of key head) (sym (take_rest line 4)) ∙ sym c.code-computed.ensures;
     }
+
+pub returns-then-eq-clause-answer : goal.returns-then-eq-clause-answer
+returns-then-eq-clause-answer c =
+    let line = c.decrypt.new.line in
+    let apdu = copied c.args.body.now line _ _ (length-line c.args.key.now c.args.head.now c.args.body.now line c.decrypt.ensures) c.copy_from_slice.ensures.after in
+    opened-some c.args.key.now c.args.head.now c.args.body.now _ (apdu ∙ ap (drop 4) c.decrypt.ensures) (returns-then-eq-clause-opened c)
+
+pub returns-else-eq-clause-answer : goal.returns-else-eq-clause-answer
+returns-else-eq-clause-answer c =
+    let key = c.args.key.now in
+    let head = c.args.head.now in (
+      opened-none key head c.args.body.now (returns-else-eq-clause-only c),
+      c.front-said.ensures ∙ ap (take 4) c.decrypt.ensures,
+      c.code-computed.ensures ∙ ap (code_of key head) (take_rest c.decrypt.new.line 4 ∙ ap (drop 4) c.decrypt.ensures),
+    )
