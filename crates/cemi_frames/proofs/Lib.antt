@@ -1,2 +1,7 @@
 mod Info
 mod FirstFault
+mod Passing
+mod Message
+mod Long
+mod Raw
+mod OneAnswer

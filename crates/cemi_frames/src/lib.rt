@@ -3,7 +3,9 @@
 #![tactic(auto)]
 
 mod frame;
+mod law;
 mod reading;
 
 pub use frame::{Code, Frame, NotFrame};
+pub use law::one_frame_or_one_fault;
 pub use reading::read_frame;
