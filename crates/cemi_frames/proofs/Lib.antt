@@ -5,3 +5,4 @@ mod Message
 mod Long
 mod Raw
 mod OneAnswer
+mod Answer
