@@ -6,3 +6,4 @@ mod Long
 mod Raw
 mod OneAnswer
 mod Answer
+mod Written

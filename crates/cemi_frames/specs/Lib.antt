@@ -3,3 +3,4 @@ pub mod Frames
 pub mod Faults
 pub mod Reading
 pub mod Law
+pub mod Writing
