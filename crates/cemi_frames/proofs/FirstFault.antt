@@ -38,7 +38,7 @@ body_fault Ind whole body = first_of (data_tests whole body)
 body_fault Con whole body = first_of (data_tests whole body)
 body_fault Busmon whole body = first_of (raw_tests whole body)
 
-first_of-body : (octets : List ℕ) → first_of (body_tests octets) ≡ body_fault (code_at (slice_index octets 0)) (length octets) (body_of octets)
+pub first_of-body : (octets : List ℕ) → first_of (body_tests octets) ≡ body_fault (code_at (slice_index octets 0)) (length octets) (body_of octets)
 first_of-body octets = by (eqb (slice_index octets 0) 0x2b) (eqb (slice_index octets 0) 0x11) (eqb (slice_index octets 0) 0x29)
   where
     by : (busmon req ind : Bool) → first_of (cond busmon (raw_tests (length octets) (body_of octets)) (data_tests (length octets) (body_of octets))) ≡ body_fault (cond busmon Busmon (cond req Req (cond ind Ind Con))) (length octets) (body_of octets)

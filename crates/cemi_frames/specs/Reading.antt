@@ -1,12 +1,12 @@
 -- What stands at which place of octets that are a frame, for the readers of its parts.
-use Rattle.std.specs.Prelude.{◌≡◌, ℕ, ◌+◌, ◌-◌, ◌*◌, ◌/◌, ◌<◌, ◌≤◌, List, [], ◌∷◌, ◌++◌, length, slice_index, take, drop, Bool, true, false, ◌==◌, if◌then◌else◌, Option, Some, None, Result, Ok, Err, MatchResult}
+use Rattle.std.specs.Prelude.{◌≡◌, ℕ, ◌+◌, ◌-◌, ◌*◌, ◌/◌, ◌<◌, ◌≤◌, List, [], ◌∷◌, ◌++◌, length, slice_index, take, drop, Bool, true, false, ◌==◌, ◌&&◌, if◌then◌else◌, Option, Some, None, Result, Ok, Err, MatchResult}
 use Rattle.cemi_frames.specs.declared.frame.Code.{Code}
 use Rattle.cemi_frames.specs.declared.frame.Code.TheVariants.{Req, Ind, Con, Busmon}
 use Rattle.cemi_frames.specs.declared.frame.Frame.{Frame}
 use Rattle.cemi_frames.specs.declared.frame.NotFrame.{NotFrame}
 use Rattle.cemi_frames.specs.Fields.{Fields}
 use Rattle.cemi_frames.specs.Frames.{Telegram, telegram, said_by, repeat_mark}
-use Rattle.cemi_frames.specs.Faults.{body_of, misfit, is_standard}
+use Rattle.cemi_frames.specs.Faults.{body_place, body_of, misfit, is_standard}
 
 abbrev pub word_at : List ℕ → ℕ → ℕ
 word_at octets place = slice_index octets place * 256 + slice_index octets (place + 1)
@@ -49,6 +49,10 @@ body_frame Busmon body = raw_frame body
 -- the frame that the octets are, where they are one
 unfoldable pub frame_at : List ℕ → Telegram
 frame_at octets = body_frame (code_at (slice_index octets 0)) (body_of octets)
+
+-- where its content begins
+abbrev pub content_place : List ℕ → ℕ
+content_place octets = body_place octets + (if slice_index octets 0 == 0x2b && is_standard (slice_index (body_of octets) 0) then 6 else 7)
 
 -- A reader answers this frame where there is no fault, and else the fault.
 abbrev pub Reads : Result Frame NotFrame → Option NotFrame → Telegram → Type 0

@@ -1,14 +1,27 @@
 ghost use Rattle.std.specs.Prelude.{◌≡◌, ℕ, ◌+◌, ◌/◌, ◌%◌, ◌<◌, ◌≤◌, [], ◌∷◌, length, MatchResult, MatchOption, true, false, IfOk, None, Some, slice_index, slice_range};
 ghost use Rattle.cemi_frames.specs.Fields.{check_octet};
-ghost use Rattle.cemi_frames.specs.Frames.{IsFrame, telegram, repeat_mark};
+ghost use Rattle.cemi_frames.specs.Frames.{Telegram, IsFrame, telegram, repeat_mark};
 ghost use Rattle.cemi_frames.specs.Faults.{frame_fault, misfit, first_of, head_tests, data_tests, standard_tests, extended_tests, raw_tests, body_of, check_test, is_code};
-ghost use Rattle.cemi_frames.specs.Reading.{Reads, IsMisfit, FitsRow, code_at, data_frame, standard_frame, extended_frame, raw_frame, frame_at};
+ghost use Rattle.cemi_frames.specs.Reading.{Reads, IsMisfit, FitsRow, code_at, data_frame, standard_frame, extended_frame, raw_frame, frame_at, content_place};
 
 use crate::frame::{Code, Frame, NotFrame};
 use knx_base::IndAddr;
 
-/// The frame that the octets are, or the first fault. Its content is a part of the octets.
+/// The frame that the octets are, or the first fault. The frame's content is a part of the octets.
 pub fn read_frame(octets: &[u8]) -> Result<Frame<'_>, NotFrame>
+    // The first fault in the order of the octets, or the fields by their places.
+    ensures exact { Reads result (frame_fault octets.now) (frame_at octets.now) }
+
+    // What is read is a frame by its case, and such a frame is read.
+    ensures frame { IfOk result (λ found. IsFrame octets.now (telegram found)) }
+    ensures only { (t : Telegram) → IsFrame octets.now t → MatchResult result (λ found. telegram found ≡ t) (λ _. ⊥) }
+
+    ensures content { IfOk result (λ found. found.content.now ≡ slice_range octets.now (content_place octets.now) (content_place octets.now + length found.content.now)) }
+{
+    read_parts(octets)
+}
+
+fn read_parts(octets: &[u8]) -> Result<Frame<'_>, NotFrame>
     ensures exact { Reads result (frame_fault octets.now) (frame_at octets.now) }
 {
     let (code, body) = read_head(octets)?;
