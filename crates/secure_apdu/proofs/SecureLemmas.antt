@@ -1,5 +1,5 @@
 -- What is wrong with a secure frame first.
-use Rattle.std.proofs.Common.{◌≡◌, ℕ, ◌+◌, ◌-◌, ◌/◌, ◌%◌, ◌<◌, ◌≤◌, Bool, true, false, cond, List, [], ◌∷◌, ◌++◌, length, take, drop, length-append, Option, Some, None, refl, sym, ap, ◌∙◌, subst, arith}
+use Rattle.std.proofs.Common.{◌≡◌, ℕ, ◌+◌, ◌-◌, ◌/◌, ◌%◌, ◌<◌, ◌≤◌, Bool, true, false, cond, List, [], ◌∷◌, ◌++◌, length, take, drop, length-drop, Option, Some, None, refl, sym, ap, ◌∙◌, subst, arith}
 use Rattle.std.specs.Prelude.{slice_index, find, option_map, nat_lt, ◌==◌, ◌↔◌, IsTrue}
 use Rattle.std.proofs.lemmas.Bool.{lt-ltb, le-ltb, ltb-false, eq-eqb, eqb-true, false≢true}
 use Rattle.std.proofs.lemmas.List.{length-take-le, get_or_at}
@@ -66,32 +66,13 @@ faultless_algorithm content group none =
     (later_tests (slice_index content 2) (length content - 13) group) long.1 in
     ltb-false 1 (algorithm_of (slice_index content 2)) known.0
 
--- the parts of a long content: how long the body is, and where the control field stands
-pub length-parts : (content : List ℕ) (field shown : ℕ) (body : List ℕ) → HasParts content field shown body → 2 ≤ length content
-    → length content ≡ length body + 9
-length-parts content field shown body parts long = omega (
-  arith,
-  ap length parts.spelled,
-  length-append (take 2 content) (field ∷ (octets_of shown ++ body)),
-  length-append (octets_of shown) body,
-  length-octets_of shown,
-  length-take-le 2 content long,
-)
-
-pub field-parts : (content : List ℕ) (field shown : ℕ) (body : List ℕ) → HasParts content field shown body → 2 ≤ length content
-    → slice_index content 2 ≡ field
-field-parts content field shown body parts long =
-    ap (λ (octets : List ℕ). slice_index octets 2) parts.spelled
-    ∙ get_or_at (take 2 content) field (octets_of shown ++ body) 0 2 (length-take-le 2 content long)
-
 pub open_body : (content : List ℕ) (group : Bool) (field shown : ℕ) (body : List ℕ) → bad_secure content group ≡ None
     → HasParts content field shown body → length content ≤ 255
     → (algorithm_of field ≤ 1) × (4 ≤ length body) × (length body ≤ 246)
 open_body content group field shown body none parts short =
     let long = faultless_length content group none in
-    let same = length-parts content field shown body parts (omega (arith, long)) in
-    let stands = field-parts content field shown body parts (omega (arith, long)) in (
-      subst (λ (f : ℕ). algorithm_of f ≤ 1) stands (faultless_algorithm content group none),
+    let same : length body ≡ length content - 9 = ap length parts.body_is ∙ length-drop 9 content in (
+      subst (λ (f : ℕ). algorithm_of f ≤ 1) (sym parts.field_is) (faultless_algorithm content group none),
       omega (arith, long, same),
       omega (arith, short, same),
     )

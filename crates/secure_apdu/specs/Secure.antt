@@ -1,6 +1,6 @@
 -- Secure frames: the service 3f1 with a control field, a number, a secured APDU and a code, as docs/RULES.md tells.
 use Rattle.std.specs.Prelude.{◌≡◌, ℕ, ◌+◌, ◌-◌, ◌/◌, ◌%◌, ◌≤◌, ◌==◌, ◌&&◌, ◌||◌, nat_lt, nat_le, Bool, true, false, if◌then◌else◌, List, [], ◌∷◌, ◌++◌, length, slice_index, take, drop, find, Option, Some, None, option_map}
-use Rattle.knx_base.specs.Number.{octets_of}
+use Rattle.knx_base.specs.Number.{number_at}
 use Rattle.plain_apdu.specs.declared.tpci.Tpci.{Tpci}
 use Rattle.plain_apdu.specs.declared.tpci.Tpci.TheVariants.{Data, Connected}
 use Rattle.plain_apdu.specs.Tpci.{tpci_of}
@@ -75,6 +75,8 @@ bad_secure content group = first_fault (secure_tests content group)
 
 -- ---- the parts of one that has none
 
--- control field, number field, and the secured APDU with its code
+-- the octets have, after the two of the service, a control field, six octets of a number, and a secured APDU with its code
 pub record HasParts (content : List ℕ) (field shown : ℕ) (body : List ℕ) : Type 0 where
-  pub spelled : content ≡ take 2 content ++ field ∷ (octets_of shown ++ body)
+  pub field_is : field ≡ slice_index content 2
+  pub shown_is : shown ≡ number_at content 3
+  pub body_is : body ≡ drop 9 content
