@@ -35,6 +35,7 @@ FitsRow-long (kind ∷ size ∷ rest) two long = record { not_empty = omega arit
   where
     later : drop (size + 2) (kind ∷ size ∷ rest) ≡ drop size rest
     later = let two_more : size + 2 ≡ suc (suc size) = omega arith in ap (λ (k : ℕ). drop k (kind ∷ size ∷ rest)) two_more
+
     goes_on : (place : ℕ) → misfit (length (kind ∷ size ∷ rest)) place (kind ∷ size ∷ rest) ≡ misfit (length (drop (size + 2) (kind ∷ size ∷ rest))) (place + (size + 2)) (drop (size + 2) (kind ∷ size ∷ rest))
     goes_on place =
         let step : misfit (length (kind ∷ size ∷ rest)) place (kind ∷ size ∷ rest) ≡ misfit (suc (length rest)) (place + 2 + size) (drop size rest) = rw (le-ltb (length rest) size (omega arith)) refl in

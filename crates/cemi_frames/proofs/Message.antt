@@ -84,10 +84,10 @@ message-head octets none =
     let rows = rows-misfit (get_or octets 1 0) 2 (take (get_or octets 1 0) (drop 2 octets)) (omega arith) (is_some-false (info_misfit octets) fit.0) in
     let rest : drop 2 octets ≡ take (get_or octets 1 0) (drop 2 octets) ++ body_of octets = sym (take-append-drop (get_or octets 1 0) (drop 2 octets)) ∙ ap (λ (t : List ℕ). take (get_or octets 1 0) (drop 2 octets) ++ t) (drop-drop (get_or octets 1 0) 2 octets) in
     let spelled : octets ≡ get_or octets 0 0 ∷ length (flat_map row_octets rows.0) ∷ (flat_map row_octets rows.0 ++ body_of octets) =
-        two_octets octets (omega arith)
-        ∙ ap (λ (t : List ℕ). get_or octets 0 0 ∷ get_or octets 1 0 ∷ t) rest
-        ∙ ap (λ (t : List ℕ). get_or octets 0 0 ∷ get_or octets 1 0 ∷ (t ++ body_of octets)) rows.1
-        ∙ ap (λ (k : ℕ). get_or octets 0 0 ∷ k ∷ (flat_map row_octets rows.0 ++ body_of octets)) (sym size ∙ ap length rows.1) in
+    two_octets octets (omega arith)
+    ∙ ap (λ (t : List ℕ). get_or octets 0 0 ∷ get_or octets 1 0 ∷ t) rest
+    ∙ ap (λ (t : List ℕ). get_or octets 0 0 ∷ get_or octets 1 0 ∷ (t ++ body_of octets)) rows.1
+    ∙ ap (λ (k : ℕ). get_or octets 0 0 ∷ k ∷ (flat_map row_octets rows.0 ++ body_of octets)) (sym size ∙ ap length rows.1) in
     (opposite-false (is_code (get_or octets 0 0)) code.0, (rows.0, spelled))
   where
     is_some-false : (o : Option ℕ) → is_some o ≡ false → o ≡ None

@@ -100,9 +100,9 @@ frame_of-message code rows body none =
     let head = HeadOf-message (code_number code) rows body (code_number-known code) in
     let code_is : code_at (slice_index (message (code_number code) rows body) 0) ≡ code = ap code_at head.code_is ∙ code_at-number code in
     let fault : body_fault (code_at (slice_index (message (code_number code) rows body) 0)) (length (message (code_number code) rows body)) (body_of (message (code_number code) rows body)) ≡ body_fault code (length (message (code_number code) rows body)) body =
-        ap (λ (k : Code). body_fault k (length (message (code_number code) rows body)) (body_of (message (code_number code) rows body))) code_is ∙ ap (body_fault code (length (message (code_number code) rows body))) head.body_is in
+    ap (λ (k : Code). body_fault k (length (message (code_number code) rows body)) (body_of (message (code_number code) rows body))) code_is ∙ ap (body_fault code (length (message (code_number code) rows body))) head.body_is in
     let frame : body_frame (code_at (slice_index (message (code_number code) rows body) 0)) (body_of (message (code_number code) rows body)) ≡ body_frame code body =
-        ap (λ (k : Code). body_frame k (body_of (message (code_number code) rows body))) code_is ∙ ap (body_frame code) head.body_is in
+    ap (λ (k : Code). body_frame k (body_of (message (code_number code) rows body))) code_is ∙ ap (body_frame code) head.body_is in
     (frame_fault-body (message (code_number code) rows body) head.tests ∙ fault ∙ none (length (message (code_number code) rows body)), frame)
 
 -- no fault, and this frame

@@ -79,9 +79,10 @@ octets-extended whole f some fits =
     let long : ltb (suc (suc (suc (suc (suc (suc (suc (length (f.content ++ check_octet (long_octets f) ∷ []))))))))) 7 ≡ false = le-ltb _ _ (omega arith) in
     let no_escape : eqb (length f.content - 1) 255 ≡ false = ne_eqb _ _ (λ e. omega arith) in
     let size : eqb (suc (suc (suc (suc (suc (suc (suc (length (f.content ++ check_octet (long_octets f) ∷ [])))))))) - 7) (length f.content - 1 + 2) ≡ true = eq-eqb _ _ (omega arith) in
-    let content : take (suc (suc (suc (suc (suc (suc (suc (length (f.content ++ check_octet (long_octets f) ∷ [])))))))) - 8) (f.content ++ check_octet (long_octets f) ∷ []) ≡ f.content = take_at f.content (check_octet (long_octets f) ∷ []) _ (omega arith) in
-    (rw (long, no_escape, size) (check-octets (long_octets f)),
-     rw content (said_by-long Busmon (repeat_mark f.control) f ((length f.content - 1) ∷ (f.content ++ check_octet (long_octets f) ∷ []))))
+    let content : take (suc (suc (suc (suc (suc (suc (suc (length (f.content ++ check_octet (long_octets f) ∷ [])))))))) - 8) (f.content ++ check_octet (long_octets f) ∷ []) ≡ f.content = take_at f.content (check_octet (long_octets f) ∷ []) _ (omega arith) in (
+      rw (long, no_escape, size) (check-octets (long_octets f)),
+      rw content (said_by-long Busmon (repeat_mark f.control) f ((length f.content - 1) ∷ (f.content ++ check_octet (long_octets f) ∷ []))),
+    )
 
 -- ---- a standard frame
 

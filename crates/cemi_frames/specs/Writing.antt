@@ -23,7 +23,7 @@ fields_of parts = record {
   control2 = written_control2 parts.group;
   source = parts.source.0;
   destination = parts.destination;
-  content = parts.content.now
+  content = parts.content.now;
 }
 
 -- an L_Data.ind message
@@ -43,5 +43,5 @@ written_frame code parts = record {
   control2 = written_control2 parts.group;
   source = parts.source.0;
   destination = parts.destination;
-  content = parts.content.now
+  content = parts.content.now;
 }

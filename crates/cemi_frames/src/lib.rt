@@ -11,3 +11,6 @@ pub use frame::{Code, Frame, NotFrame};
 pub use law::one_frame_or_one_fault;
 pub use reading::read_frame;
 pub use writing::{FrameParts, write_busmon, write_ldata};
+
+#[cfg(test)]
+mod tests;
