@@ -1,2 +1,3 @@
 pub mod SyncLemmas
 pub mod SecureLemmas
+pub mod SealedFrameLemmas

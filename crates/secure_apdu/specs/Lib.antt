@@ -1,3 +1,4 @@
 pub mod Secure
 pub mod Sync
 pub mod Opening
+pub mod SealedFrame
