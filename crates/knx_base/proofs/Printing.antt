@@ -1,7 +1,8 @@
 -- Texts that are appended to a sink in pieces.
-use Rattle.std.proofs.Common.{◌≡◌, ℕ, ◌-◌, List, [], ◌++◌, length, take, drop, Option, Some, None, refl, ap, ◌∙◌, append_assoc, append-nil, take-append-drop}
+use Rattle.std.proofs.Common.{◌≡◌, ℕ, ◌-◌, List, [], ◌++◌, length, take, drop, Option, Some, None, Result, Ok, Err, refl, ap, ◌∙◌, append_assoc, append-nil, take-append-drop}
 use Rattle.std.specs.Io.KnownBytes.{append_known}
 use Rattle.std.proofs.lemmas.List.{take_rest}
+use Rattle.knx_base.specs.Sink.{Prints}
 
 -- nothing was appended
 pub append_known-nil : (known : Option (List ℕ)) → append_known known [] ≡ known
@@ -26,3 +27,16 @@ one_piece start before after text rest front n whole so_far taken = (
       ∙ whole,
   taken ∙ ap (λ known. append_known known (take n rest)) so_far ∙ append_known-append start front (take n rest),
 )
+
+-- a text was printed whole and another after it
+pub prints_then : {T E : Type 0} (old mid new : Option (List ℕ)) (result : Result T E) (front back : List ℕ)
+    → mid ≡ append_known old front → Prints mid new result back → Prints old new result (front ++ back)
+prints_then old mid new (Ok x) front back before printed =
+    printed ∙ ap (λ known. append_known known back) before ∙ append_known-append old front back
+prints_then old mid new (Err e) front back before printed =
+    let begun = printed.0 in
+    (
+      front ++ begun,
+      (printed.1.0, append_assoc front begun printed.1.0 ∙ ap (λ both. front ++ both) printed.1.1),
+      printed.2 ∙ ap (λ known. append_known known begun) before ∙ append_known-append old front begun,
+    )

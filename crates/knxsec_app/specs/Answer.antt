@@ -1,11 +1,15 @@
 -- The report and the status of a whole command, as a function of its words and files.
-use Rattle.std.specs.Prelude.{◌≡◌, ℕ, List, codes, Option, Some, None}
+use Rattle.std.specs.Prelude.{◌≡◌, ℕ, List, [], ◌∷◌, ◌++◌, codes, Option, Some, None}
 use Rattle.std.specs.Io.KnownBytes.{append_known}
 use Rattle.knx_base.specs.Files.{File, Seen}
 use Rattle.knx_base.specs.Sink.{AppendsPrefix}
 use Rattle.knxsec_app.specs.declared.status.Status.{Status}
 use Rattle.knxsec_app.specs.declared.status.Status.TheVariants.{Done, Alarm, Usage, Refused, ReadFault, WriteFault, NoMemory}
+use Rattle.hex.specs.Hex.{encode_lower}
 use Rattle.knxsec_app.specs.Words.{Asked, Open, command_of}
+use Rattle.knxsec_app.specs.declared.verdict.Verdict.{Verdict}
+use Rattle.knxsec_app.specs.Verdict.{verdict_text}
+use Rattle.knxsec_app.specs.Opening.{refusal_of, apdu_of}
 
 pub record Answer : Type 0 where
   pub report : List ℕ
@@ -16,10 +20,15 @@ abbrev pub usage_line : List ℕ
 usage_line =
     codes "usage: knxsec open KEYHEX FRAMEHEX | audit TABLES FRAMES | audit-keyring KEYRING PASSWORDFILE TABLES FRAMES | replay SCRIPT | make NUMBER COUNT\n"
 
+-- the APDU in hexadecimal, or the verdict
+abbrev pub opening_answer : Option Verdict → List ℕ → Answer
+opening_answer None apdu = record { report = encode_lower apdu ++ 10 ∷ []; status = Done }
+opening_answer (Some verdict) apdu = record { report = verdict_text verdict ++ 10 ∷ []; status = Alarm }
+
 -- the answer to what was asked, where these are the files
 abbrev pub answer_to : Option Asked → List File → Answer
 answer_to None files = record { report = usage_line; status = Usage }
-answer_to (Some (Open key frame)) files = record { report = codes "unbuilt\n"; status = Alarm }
+answer_to (Some (Open key frame)) files = opening_answer (refusal_of key frame) (apdu_of key frame)
 
 -- the answer to the words, where these are the files
 abbrev pub answer_of : List (List ℕ) → List File → Answer

@@ -3,10 +3,12 @@
 
 mod frame_word;
 mod obey;
+mod opening;
 mod status;
 #[cfg(test)]
 mod tests;
 mod top;
+mod verdict;
 mod words;
 
 pub use status::Status;

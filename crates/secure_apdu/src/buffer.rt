@@ -1,4 +1,4 @@
-ghost use Rattle.std.specs.Prelude.{◌≡◌, ℕ, ◌≤◌, List, [], take};
+ghost use Rattle.std.specs.Prelude.{◌≡◌, ℕ, ◌≤◌, List, [], length, take};
 
 use std::marker::Model;
 
@@ -37,6 +37,7 @@ impl<const ROOM: usize> OctetBuf<ROOM> {
     /// The octets.
     pub fn bytes(&self) -> &[u8]
         ensures octets { result.now ≡ self.now }
+        ensures room { length self.now ≤ ROOM }
     {
         &self.store[..self.len]
     }

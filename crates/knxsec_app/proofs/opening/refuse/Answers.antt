@@ -1,0 +1,32 @@
+use Rattle.std.proofs.Common.{List, ℕ, Option, ◌∷◌, sym, ap, ◌∙◌}
+use Rattle.std.specs.Prelude.{option_map}
+use Rattle.cemi_frames.specs.declared.frame.NotFrame.{NotFrame}
+use Rattle.cemi_frames.specs.Frames.{Telegram}
+use Rattle.cemi_frames.specs.Reading.{frame_at}
+use Rattle.knx_ccm.specs.Sealing.{said_apdu}
+use Rattle.knxsec_app.specs.declared.verdict.Verdict.TheVariants as verdict
+use Rattle.knxsec_app.specs.Opening.{head_in, body_in, first_failing, telegram_checks, refusal_of, apdu_of}
+use Rattle.knxsec_app.proofs.opening.refuse.Goals as goal
+
+pub returns-in-Ok-clause-refusal : goal.returns-in-Ok-clause-refusal
+unfolding refusal_of
+returns-in-Ok-clause-refusal c =
+    let key = c.args.key.now in
+    let octets = c.args.octets.now in
+    let exact = c.in-Ok.ensures.exact in
+    c.refuse_frame.ensures.refusal
+    ∙ ap (λ (t : Telegram). first_failing (telegram_checks key t)) exact.1
+    ∙ ap (λ (f : Option NotFrame). first_failing (option_map verdict.NotFrame f ∷ telegram_checks key (frame_at octets))) (sym exact.0)
+
+pub returns-in-Ok-clause-opened : goal.returns-in-Ok-clause-opened
+unfolding apdu_of
+returns-in-Ok-clause-opened c = λ none.
+    c.refuse_frame.ensures.opened none
+    ∙ ap (λ (t : Telegram). said_apdu c.args.key.now (head_in t) (body_in t)) c.in-Ok.ensures.exact.1
+
+pub returns-in-Err-clause-refusal : goal.returns-in-Err-clause-refusal
+unfolding refusal_of
+returns-in-Err-clause-refusal c =
+    let key = c.args.key.now in
+    let octets = c.args.octets.now in
+    ap (λ (f : Option NotFrame). first_failing (option_map verdict.NotFrame f ∷ telegram_checks key (frame_at octets))) (sym c.in-Err.ensures.exact)
