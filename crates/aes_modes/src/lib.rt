@@ -9,6 +9,8 @@ mod key;
 mod mac;
 mod rounds;
 mod tables;
+#[cfg(test)]
+mod tests;
 
 pub use cbc::{cbc_decrypt, cbc_encrypt};
 pub use counter::ctr_apply;
