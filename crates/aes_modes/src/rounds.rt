@@ -1,5 +1,5 @@
-// The rounds of AES-128 (FIPS 197, 5.1) on four words, one for each column of the state, with row 0
-// in the highest octet.
+// The rounds of AES-128 (FIPS 197, 5.1 and 5.3) on four words, one for each column of the state, with
+// row 0 in the highest octet. SubBytes and MixColumns of one octet are a single look-up.
 
 ghost use Rattle.std.specs.Prelude.{◌≡◌, ◌<◌, List, ℕ, slice_index};
 ghost use Rattle.aes_modes.specs.Octet.{◌⊕◌, sub_byte};
@@ -130,7 +130,7 @@ pub(crate) fn last_round(s: Columns, k: Columns) -> Columns
     add_key(shifted, k)
 }
 
-// The column of which MixColumns makes this one.
+// InvMixColumns: the column whose product this one is (5.3.3).
 #[inline(always)]
 fn unmixed_column(t: u32) -> u32
     ensures row0 { mixed 0 (octet_of result 0) (octet_of result 1) (octet_of result 2) (octet_of result 3) ≡ octet_of t 0 }
@@ -144,7 +144,7 @@ fn unmixed_column(t: u32) -> u32
         ^ column_at(&UNMIXED3, octet(t, 3))
 }
 
-// One column before SubBytes and ShiftRows.
+// One column before SubBytes and ShiftRows: each row goes back to its own column.
 #[inline(always)]
 fn restored_column(a: u32, b: u32, c: u32, d: u32) -> u32
     ensures row0 { sub_byte (octet_of result 0) ≡ octet_of a 0 }

@@ -1,5 +1,5 @@
-use Rattle.std.proofs.Common.{◌≡◌, [], ◌∷◌, refl, ap, ◌∙◌}
-use Rattle.aes_modes.specs.Cipher.{mixed, xor_blocks, sub_bytes, shift_rows, mix_columns, round}
+use Rattle.std.proofs.Common.{[], ◌∷◌, refl, ap, ◌∙◌}
+use Rattle.aes_modes.specs.Cipher.{xor_blocks, sub_bytes, shift_rows, mix_columns, round}
 use Rattle.aes_modes.specs.Words.{block_of}
 use Rattle.aes_modes.proofs.Squares.{xor_blocks_twice}
 use Rattle.aes_modes.proofs.rounds.undo_round.Goals as goal

@@ -1,4 +1,4 @@
-use Rattle.std.proofs.Common.{◌≡◌, ◌∙◌, List, ℕ, ◌++◌, subst, sym, arith}
+use Rattle.std.proofs.Common.{◌∙◌, subst, sym, arith}
 use Rattle.aes_modes.specs.Modes.{MacState, Holds}
 use Rattle.aes_modes.proofs.Chaining.{Holds-mac_within, Holds-mac_between}
 use Rattle.aes_modes.proofs.mac.CbcMac.finish.Goals as goal
