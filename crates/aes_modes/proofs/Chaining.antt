@@ -227,6 +227,10 @@ Holds-mac_between s k m h none =
     let used = h.used in
     h.block ∙ between_blocks k m n (omega arith) ∙ sym (mac_of-chained k m n (omega arith))
 
+pub mac_of-nil : (k : List ℕ) → mac_of k [] ≡ zero_block
+unfolding mac_of padded chained
+mac_of-nil k = refl
+
 pub length-mac_of : (k m : List ℕ) → length (mac_of k m) ≡ 16
 unfolding mac_of
 length-mac_of k m = length-chained k zero_block (padded m) (length (padded m) / 16) refl
