@@ -1,14 +1,12 @@
 -- Blocks of a list of octets, and the chain of cipher blocks over them.
-use Rattle.std.proofs.Common.{◌≡◌, ℕ, zero, suc, ◌+◌, ◌-◌, ◌*◌, ◌/◌, ◌%◌, ◌<◌, ◌≤◌, ◌≢◌, List, [], ◌∷◌, ◌++◌, length, map, take, drop, replicate, slice_index, slice_set, refl, sym, ap, ◌∙◌, inl, inr, arith, lit<, length-append, length-drop, length-take-le}
+use Rattle.std.proofs.Common.{◌≡◌, ℕ, zero, suc, ◌+◌, ◌-◌, ◌*◌, ◌/◌, ◌%◌, ◌<◌, ◌≤◌, ◌≢◌, List, [], ◌∷◌, ◌++◌, length, take, drop, replicate, slice_index, slice_set, refl, sym, ap, ◌∙◌, inl, inr, arith, length-append, length-drop, length-take-le}
 use Rattle.std.proofs.lemmas.List.{get_or_past, get_or-set_same, get_or-set_other, length-set, get_or_append_left, get_or_push, get_or-append_right, get_or-take, get_or-drop, take-take, take-append-drop, take_rest, append_assoc, length-replicate, get_or-replicate}
-use Rattle.std.proofs.lemmas.List.FromFn.{get_or-map-range_with_len, length-map-range_with_len, fill_by_all}
+use Rattle.std.proofs.lemmas.List.FromFn.{get_or-map-range_with_len, length-map-range_with_len}
 use Rattle.std.proofs.lemmas.Slice.{between_is}
-use Rattle.std.proofs.lemmas.Grind.{same_number_lists}
 use Rattle.std.proofs.lemmas.Bool.{cases_lt, cases_eq}
-use Rattle.std.specs.List.{range_with_len}
 use lib.Bits.{xor_zero_l, xor_comm}
 use Rattle.aes_modes.specs.Octet.{◌⊕◌}
-use Rattle.aes_modes.specs.Cipher.{AreOctets, IsBlock, square, xor_blocks, last_round, cipher}
+use Rattle.aes_modes.specs.Cipher.{AreOctets, IsBlock, xor_blocks, last_round, cipher}
 use Rattle.aes_modes.specs.Modes.{block_at, chained, cbc_of, zero_block, padded, mac_of, MacState, Holds}
 use Rattle.aes_modes.proofs.Squares.{IsBlock_square, xor_blocks-at, length-xor_blocks, xor_blocks_comm, same_blocks}
 
@@ -228,6 +226,10 @@ Holds-mac_between s k m h none =
     let n = length m / 16 in
     let used = h.used in
     h.block ∙ between_blocks k m n (omega arith) ∙ sym (mac_of-chained k m n (omega arith))
+
+pub mac_of-nil : (k : List ℕ) → mac_of k [] ≡ zero_block
+unfolding mac_of padded chained
+mac_of-nil k = refl
 
 pub length-mac_of : (k m : List ℕ) → length (mac_of k m) ≡ 16
 unfolding mac_of

@@ -1,5 +1,5 @@
 -- What a check computes of the tables, for each octet.
-use Rattle.std.proofs.Common.{◌≡◌, ℕ, zero, suc, ◌+◌, ◌*◌, ◌<◌, ◌==◌, nat_lt, Bool, true, ◌&&◌, if◌then◌else◌, ◌-◌, ◌%◌, List, [], ◌∷◌, slice_index, refl, sym, ap, ◌∙◌, arith, inl, inr}
+use Rattle.std.proofs.Common.{◌≡◌, ℕ, zero, suc, ◌+◌, ◌<◌, ◌==◌, nat_lt, Bool, true, ◌&&◌, if◌then◌else◌, ◌-◌, ◌%◌, List, [], ◌∷◌, slice_index, refl, sym, ap, ◌∙◌, arith, inl, inr}
 use Rattle.std.proofs.lemmas.Bool.{and_parts, cases_lt, eqb-true, ltb-true}
 use Rattle.aes_modes.specs.Octet.{◌⊕◌, product_below, remainder, times, inverse_below, inverse, number_below, affine, sub_byte}
 use Rattle.aes_modes.specs.Cipher.{factor, mixed, round_constant}

@@ -1,8 +1,8 @@
 -- No two blocks have the same cipher: each step of a round is injective on blocks of octets.
-use Rattle.std.proofs.Common.{◌≡◌, ℕ, zero, suc, ◌+◌, ◌*◌, ◌%◌, ◌<◌, ◌≤◌, List, [], ◌∷◌, length, slice_index, refl, sym, ap, ◌∙◌, arith, lit<}
+use Rattle.std.proofs.Common.{◌≡◌, ℕ, zero, suc, ◌+◌, ◌*◌, ◌%◌, ◌<◌, ◌≤◌, List, [], ◌∷◌, length, slice_index, sym, ap, ◌∙◌, arith, lit<}
 use Rattle.std.proofs.lemmas.Nat.{xor_of_8}
-use Rattle.aes_modes.specs.Octet.{◌⊕◌, times, sub_byte}
-use Rattle.aes_modes.specs.Cipher.{entry, square, IsBlock, xor_blocks, sub_bytes, shift_rows, factor, mixed, mix_columns, round, last_round, key_expansion, rounds}
+use Rattle.aes_modes.specs.Octet.{sub_byte}
+use Rattle.aes_modes.specs.Cipher.{entry, square, IsBlock, sub_bytes, shift_rows, mixed, mix_columns, round, last_round, key_expansion, rounds}
 use Rattle.aes_modes.proofs.Octets.{square_entry}
 use Rattle.aes_modes.proofs.Field.{product_of}
 use Rattle.aes_modes.proofs.Computed.{sub_byte-lt, sub_byte_injective, times-lt, unfactor, row_of, row_of-0, row_of-1, row_of-2, row_of-3, unmixed}

@@ -1,10 +1,10 @@
 -- Blocks: their octets, sums of blocks, and the round keys.
-use Rattle.std.proofs.Common.{◌≡◌, ℕ, zero, suc, ◌+◌, ◌-◌, ◌*◌, ◌%◌, ◌^◌, ◌<◌, ◌≤◌, ◌==◌, if◌then◌else◌, Bool, true, false, List, [], ◌∷◌, length, slice_index, slice_index_or, refl, sym, ap, ◌∙◌, arith, lit<}
+use Rattle.std.proofs.Common.{◌≡◌, ℕ, zero, suc, ◌+◌, ◌*◌, ◌%◌, ◌<◌, ◌≤◌, ◌==◌, if◌then◌else◌, Bool, true, false, List, [], ◌∷◌, length, slice_index, slice_index_or, refl, sym, ap, ◌∙◌, arith, lit<}
 use Rattle.std.proofs.lemmas.Nat.{xor_comm, xor_of_8}
 use Rattle.std.proofs.lemmas.List.FromFn.{get_or-map-range_with_len}
 use Rattle.std.proofs.lemmas.Grind.{same_number_lists}
 use Rattle.aes_modes.proofs.Field.{⊕_twice}
-use Rattle.aes_modes.specs.Octet.{◌⊕◌, sub_byte}
+use Rattle.aes_modes.specs.Octet.{◌⊕◌}
 use Rattle.aes_modes.specs.Cipher.{entry, square, IsBlock, xor_blocks, round_constant, next_entry, key_expansion}
 use Rattle.aes_modes.specs.Words.{octet_of, block_of, columns_of, schedule_of}
 use Rattle.aes_modes.proofs.Octets.{octet_of-lt, block_of-columns_of}

@@ -9,13 +9,13 @@ use Rattle.aes_modes.specs.Cipher.{square, xor_blocks, cipher}
 unfoldable pub block_at : List ℕ → ℕ → List ℕ
 block_at p i = square (λ r c. slice_index p (16 * i + (r + 4 * c)))
 
--- the last of the first n cipher blocks: each is the cipher of the XOR of a plain block and the
--- cipher block before it, which for the first is the initialization vector
+-- cipher block n, counted from 1: the cipher of the XOR of its plain block and of the cipher block
+-- before it, where block 0 is the initialization vector
 unfoldable pub chained : List ℕ → List ℕ → List ℕ → ℕ → List ℕ
 chained k iv p zero = iv
 chained k iv p (suc n) = cipher k (xor_blocks (block_at p n) (chained k iv p n))
 
--- CBC: the cipher blocks of the whole blocks p, one after the other
+-- CBC of whole blocks: octet j is octet j % 16 of cipher block j / 16 + 1
 unfoldable pub cbc_of : List ℕ → List ℕ → List ℕ → List ℕ
 cbc_of k iv p =
     map (λ j. slice_index (chained k iv p (j / 16 + 1)) (j % 16)) (range_with_len 0 (length p))
@@ -32,8 +32,8 @@ padded m = m ++ replicate ((16 - length m % 16) % 16) 0
 unfoldable pub mac_of : List ℕ → List ℕ → List ℕ
 mac_of k m = chained k zero_block (padded m) (length (padded m) / 16)
 
--- octet j of the counter stream: that of the cipher of block j / 16, which has its number in its last
--- octet and the octets of ctr0 before
+-- octet j of the counter stream: octet j % 16 of the cipher of the counter block j / 16, which is ctr0
+-- with that number as its last octet
 unfoldable pub stream_of : List ℕ → List ℕ → ℕ → ℕ
 stream_of k ctr0 j = slice_index (cipher k (slice_set ctr0 15 (j / 16))) (j % 16)
 
@@ -49,7 +49,8 @@ pub record MacState : Type 0 where
   pub block : List ℕ
   pub used : ℕ
 
--- the state of a CBC-MAC under the key k that was fed the octets m
+-- the state of a CBC-MAC under the key k that was fed the octets m: its block is the XOR of the octets
+-- after the last whole block and of the last cipher block
 pub record Holds (s : MacState) (k m : List ℕ) : Type 0 where
   pub key : s.key ≡ k
   pub used : s.used ≡ length m % 16

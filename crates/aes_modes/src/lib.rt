@@ -1,5 +1,6 @@
 //! AES-128 (FIPS 197), and three of its modes of operation: CBC and a counter stream (SP 800-38A,
-//! 6.2 and 6.5), and CBC-MAC. No call takes memory.
+//! 6.2 and 6.5), and CBC-MAC. No call takes memory. The cipher reads tables at places that depend on
+//! the key and on the octets, so its time may tell of them.
 #![tactic(auto)]
 
 mod blocks;
@@ -9,6 +10,8 @@ mod key;
 mod mac;
 mod rounds;
 mod tables;
+#[cfg(test)]
+mod tests;
 
 pub use cbc::{cbc_decrypt, cbc_encrypt};
 pub use counter::ctr_apply;

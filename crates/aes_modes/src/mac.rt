@@ -2,7 +2,7 @@
 
 ghost use Rattle.std.specs.Prelude.{◌≡◌, List, [], ◌∷◌, ◌++◌, ℕ, ◌+◌, ◌%◌, ◌<◌, length};
 ghost use Rattle.std.specs.List.{flat_map};
-ghost use Rattle.aes_modes.specs.Modes.{Holds, mac_of};
+ghost use Rattle.aes_modes.specs.Modes.{Holds, mac_of, zero_block};
 
 use crate::blocks::{BLOCK_LEN, block_at, xor_block};
 use crate::key::Key128;
@@ -95,7 +95,8 @@ impl CbcMac {
     /// The last block of CBC from sixteen zeros over all that was fed, filled with zeros to whole
     /// blocks. Where nothing was fed it is sixteen zeros.
     pub fn finish(self) -> [u8; 16]
-        ensures { (key fed : List ℕ) → Holds self key fed → result ≡ mac_of key fed }
+        ensures mac { (key fed : List ℕ) → Holds self key fed → result ≡ mac_of key fed }
+        ensures nothing_fed { (key : List ℕ) → Holds self key [] → result ≡ zero_block }
     {
         let mut block = self.block;
         if self.used > 0 {

@@ -1,15 +1,16 @@
-// The rounds of AES-128 (FIPS 197, 5.1) on four words, one for each column of the state, with row 0
-// in the highest octet.
+// The rounds of AES-128 (FIPS 197, 5.1 and 5.3) on four words, one for each column of the state, with
+// row 0 in the highest octet. SubBytes and MixColumns of one octet are a single look-up.
 
 ghost use Rattle.std.specs.Prelude.{◌≡◌, ◌<◌, List, ℕ, slice_index};
 ghost use Rattle.aes_modes.specs.Octet.{◌⊕◌, sub_byte};
-ghost use Rattle.aes_modes.specs.Cipher.{last_round, mixed, next_entry, round, square, xor_blocks};
+ghost use Rattle.aes_modes.specs.Cipher.{last_round, mix_columns, mixed, next_entry, round, shift_rows, square, sub_bytes, xor_blocks};
 ghost use Rattle.aes_modes.specs.Words.{block_of, columns_of, octet_of};
 
 use crate::tables::{
     MIXED0, MIXED1, MIXED2, MIXED3, RESTORED, SUBSTITUTED, UNMIXED0, UNMIXED1, UNMIXED2, UNMIXED3,
 };
 
+// The four columns of a state or of a round key.
 pub(crate) type Columns = [u32; 4];
 
 #[inline(always)]
@@ -130,7 +131,7 @@ pub(crate) fn last_round(s: Columns, k: Columns) -> Columns
     add_key(shifted, k)
 }
 
-// The column of which MixColumns makes this one.
+// InvMixColumns: the column whose product this one is (5.3.3).
 #[inline(always)]
 fn unmixed_column(t: u32) -> u32
     ensures row0 { mixed 0 (octet_of result 0) (octet_of result 1) (octet_of result 2) (octet_of result 3) ≡ octet_of t 0 }
@@ -144,7 +145,7 @@ fn unmixed_column(t: u32) -> u32
         ^ column_at(&UNMIXED3, octet(t, 3))
 }
 
-// One column before SubBytes and ShiftRows.
+// One column before SubBytes and ShiftRows: each row goes back to its own column.
 #[inline(always)]
 fn restored_column(a: u32, b: u32, c: u32, d: u32) -> u32
     ensures row0 { sub_byte (octet_of result 0) ≡ octet_of a 0 }
@@ -160,18 +161,38 @@ fn restored_column(a: u32, b: u32, c: u32, d: u32) -> u32
     ])
 }
 
+// The state before SubBytes and ShiftRows.
+#[inline(always)]
+fn restored(s: Columns) -> Columns
+    ensures { shift_rows (sub_bytes (block_of result)) ≡ block_of s }
+{
+    [
+        restored_column(s[0], s[3], s[2], s[1]),
+        restored_column(s[1], s[0], s[3], s[2]),
+        restored_column(s[2], s[1], s[0], s[3]),
+        restored_column(s[3], s[2], s[1], s[0]),
+    ]
+}
+
+// The state before MixColumns.
+#[inline(always)]
+fn unmixed(s: Columns) -> Columns
+    ensures { mix_columns (block_of result) ≡ block_of s }
+{
+    [
+        unmixed_column(s[0]),
+        unmixed_column(s[1]),
+        unmixed_column(s[2]),
+        unmixed_column(s[3]),
+    ]
+}
+
 // The state before the last round.
 #[inline(always)]
 pub(crate) fn undo_last_round(s: Columns, k: Columns) -> Columns
     ensures { last_round (block_of result) (block_of k) ≡ block_of s }
 {
-    let t = add_key(s, k);
-    [
-        restored_column(t[0], t[3], t[2], t[1]),
-        restored_column(t[1], t[0], t[3], t[2]),
-        restored_column(t[2], t[1], t[0], t[3]),
-        restored_column(t[3], t[2], t[1], t[0]),
-    ]
+    restored(add_key(s, k))
 }
 
 // The state before a round.
@@ -179,19 +200,7 @@ pub(crate) fn undo_last_round(s: Columns, k: Columns) -> Columns
 pub(crate) fn undo_round(s: Columns, k: Columns) -> Columns
     ensures { round (block_of result) (block_of k) ≡ block_of s }
 {
-    let t = add_key(s, k);
-    let u = [
-        unmixed_column(t[0]),
-        unmixed_column(t[1]),
-        unmixed_column(t[2]),
-        unmixed_column(t[3]),
-    ];
-    [
-        restored_column(u[0], u[3], u[2], u[1]),
-        restored_column(u[1], u[0], u[3], u[2]),
-        restored_column(u[2], u[1], u[0], u[3]),
-        restored_column(u[3], u[2], u[1], u[0]),
-    ]
+    restored(unmixed(add_key(s, k)))
 }
 
 // The round key after `k` (5.2).

@@ -19,7 +19,7 @@ const BLOCK: [u8; 16] = [
 fn encrypt_repeatedly(key: &Key128, block: &mut [u8; 16], count: u64)
     ensures { block.new ≡ cipher_repeated key.now block.old count }
 {
-    for i in 0..count {
+    'each: for _ in 0..count {
         key.encrypt_block(block);
     }
 }

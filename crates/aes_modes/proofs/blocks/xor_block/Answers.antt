@@ -1,4 +1,4 @@
-use Rattle.std.proofs.Common.{◌≡◌, ◌<◌, ◌∙◌, sym, arith}
+use Rattle.std.proofs.Common.{◌∙◌, sym, arith}
 use Rattle.aes_modes.proofs.Squares.{xor_blocks-at, length-xor_blocks, same_blocks}
 use Rattle.aes_modes.proofs.blocks.xor_block.Goals as goal
 

@@ -1,10 +1,10 @@
 use Rattle.std.proofs.Common.{◌≡◌, ℕ, ◌+◌, ◌-◌, ◌*◌, ◌/◌, ◌%◌, ◌<◌, ◌≤◌, List, length, slice_index, refl, subst, sym, ap, ◌∙◌, inl, inr, arith}
 use Rattle.std.proofs.lemmas.Bool.{cases_lt}
 use Rattle.std.proofs.lemmas.Grind.{same_number_lists}
-use Rattle.aes_modes.specs.Cipher.{AreOctets, IsBlock, xor_blocks, cipher}
+use Rattle.aes_modes.specs.Cipher.{AreOctets, xor_blocks, cipher}
 use Rattle.aes_modes.specs.Modes.{block_at, chained, cbc_of}
 use Rattle.aes_modes.proofs.Squares.{xor_blocks_twice, IsBlock_xor_blocks, same_blocks}
-use Rattle.aes_modes.proofs.Chaining.{block_at-at, length-block_at, IsBlock_block_at, block_at_same, chained_same, chained_next, chained-at, length-chained, length-cbc_of, cbc_of-at}
+use Rattle.aes_modes.proofs.Chaining.{block_at-at, length-block_at, IsBlock_block_at, chained_same, chained_next, chained-at, length-chained, length-cbc_of, cbc_of-at}
 use Rattle.aes_modes.proofs.cbc.cbc_decrypt.Goals as goal
 
 pub each-init : goal.each-init

@@ -1,4 +1,4 @@
-use Rattle.std.proofs.Common.{◌≡◌, [], ◌∷◌, ◌∙◌}
+use Rattle.std.proofs.Common.{[], ◌∷◌, ◌∙◌}
 use Rattle.aes_modes.specs.Cipher.{xor_blocks, sub_bytes, shift_rows, last_round}
 use Rattle.aes_modes.specs.Words.{block_of}
 use Rattle.aes_modes.proofs.rounds.last_round.Goals as goal

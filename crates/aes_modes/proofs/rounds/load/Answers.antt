@@ -1,4 +1,4 @@
-use Rattle.std.proofs.Common.{◌≡◌, [], ◌∷◌, ◌∙◌}
+use Rattle.std.proofs.Common.{[], ◌∷◌, ◌∙◌}
 use Rattle.aes_modes.specs.Words.{block_of}
 use Rattle.aes_modes.proofs.Octets.{block_of-columns_of}
 use Rattle.aes_modes.proofs.rounds.load.Goals as goal

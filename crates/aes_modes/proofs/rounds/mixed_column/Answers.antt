@@ -1,4 +1,4 @@
-use Rattle.std.proofs.Common.{◌≡◌, ℕ, ◌<◌, ap, ◌∙◌, slice_index, arith, lit<}
+use Rattle.std.proofs.Common.{◌≡◌, ℕ, ◌<◌, ap, ◌∙◌, slice_index, lit<}
 use Rattle.aes_modes.specs.Octet.{◌⊕◌, sub_byte}
 use Rattle.aes_modes.specs.Cipher.{mixed}
 use Rattle.aes_modes.specs.Words.{octet_of}

@@ -1,8 +1,7 @@
-use Rattle.std.proofs.Common.{◌≡◌, ◌*◌, ◌^◌, ◌%◌, [], ◌∷◌, ap, ◌∙◌, slice_index, arith}
+use Rattle.std.proofs.Common.{◌*◌, ◌^◌, ◌%◌, [], ◌∷◌, ap, ◌∙◌, slice_index, arith}
 use Rattle.std.proofs.lemmas.Nat.{xor_of_32}
 use Rattle.aes_modes.specs.Octet.{◌⊕◌, sub_byte}
 use Rattle.aes_modes.specs.Cipher.{next_entry}
-use Rattle.aes_modes.specs.Words.{octet_of}
 use Rattle.aes_modes.proofs.Octets.{octet_of-⊕, octet_of-turned, octet_of-constant, octet_of-columns, columns_of-block_of}
 use Rattle.aes_modes.proofs.rounds.next_round_key.Goals as goal
 

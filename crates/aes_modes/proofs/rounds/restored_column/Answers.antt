@@ -1,6 +1,5 @@
-use Rattle.std.proofs.Common.{◌≡◌, ap, ◌∙◌, slice_index, arith}
+use Rattle.std.proofs.Common.{ap, ◌∙◌, slice_index, arith}
 use Rattle.aes_modes.specs.Octet.{sub_byte}
-use Rattle.aes_modes.specs.Words.{octet_of}
 use Rattle.aes_modes.proofs.Octets.{octet_of-from_be_bytes, octet_of-lt}
 use Rattle.aes_modes.proofs.Computed.{restored}
 use Rattle.aes_modes.specs.declared.tables.TheConstants.{RESTORED}

@@ -1,5 +1,4 @@
-use Rattle.std.proofs.Common.{◌≡◌, ap, ◌∙◌, slice_index, arith}
-use Rattle.aes_modes.specs.Words.{octet_of}
+use Rattle.std.proofs.Common.{ap, ◌∙◌, slice_index, arith}
 use Rattle.aes_modes.proofs.Octets.{octet_of-from_be_bytes, octet_of-lt}
 use Rattle.aes_modes.proofs.Computed.{substituted}
 use Rattle.aes_modes.specs.declared.tables.TheConstants.{SUBSTITUTED}

@@ -1,21 +1,12 @@
-use Rattle.std.proofs.Common.{◌≡◌, [], ◌∷◌, refl, ap, ◌∙◌}
-use Rattle.aes_modes.specs.Cipher.{mixed, xor_blocks, sub_bytes, shift_rows, mix_columns, round}
+use Rattle.std.proofs.Common.{ap, refl, ◌∙◌}
+use Rattle.aes_modes.specs.Cipher.{xor_blocks, mix_columns, round}
 use Rattle.aes_modes.specs.Words.{block_of}
 use Rattle.aes_modes.proofs.Squares.{xor_blocks_twice}
 use Rattle.aes_modes.proofs.rounds.undo_round.Goals as goal
 
 pub returns : goal.returns
-unfolding sub_bytes shift_rows mix_columns round
+unfolding round
 returns c =
-    (λ i. xor_blocks (mix_columns (
-    c.restored_column.ensures.row0 i ∷ c.restored_column-2.ensures.row1 i ∷ c.restored_column-3.ensures.row2 i ∷ c.restored_column-4.ensures.row3 i
-    ∷ c.restored_column-2.ensures.row0 i ∷ c.restored_column-3.ensures.row1 i ∷ c.restored_column-4.ensures.row2 i ∷ c.restored_column.ensures.row3 i
-    ∷ c.restored_column-3.ensures.row0 i ∷ c.restored_column-4.ensures.row1 i ∷ c.restored_column.ensures.row2 i ∷ c.restored_column-2.ensures.row3 i
-    ∷ c.restored_column-4.ensures.row0 i ∷ c.restored_column.ensures.row1 i ∷ c.restored_column-2.ensures.row2 i ∷ c.restored_column-3.ensures.row3 i ∷ [])) (block_of c.args.k))
-    ∙ (λ i. xor_blocks (
-    c.unmixed_column.ensures.row0 i ∷ c.unmixed_column.ensures.row1 i ∷ c.unmixed_column.ensures.row2 i ∷ c.unmixed_column.ensures.row3 i
-    ∷ c.unmixed_column-2.ensures.row0 i ∷ c.unmixed_column-2.ensures.row1 i ∷ c.unmixed_column-2.ensures.row2 i ∷ c.unmixed_column-2.ensures.row3 i
-    ∷ c.unmixed_column-3.ensures.row0 i ∷ c.unmixed_column-3.ensures.row1 i ∷ c.unmixed_column-3.ensures.row2 i ∷ c.unmixed_column-3.ensures.row3 i
-    ∷ c.unmixed_column-4.ensures.row0 i ∷ c.unmixed_column-4.ensures.row1 i ∷ c.unmixed_column-4.ensures.row2 i ∷ c.unmixed_column-4.ensures.row3 i ∷ []) (block_of c.args.k))
-    ∙ ap (λ b. xor_blocks b (block_of c.args.k)) c.add_key-t.ensures
-    ∙ xor_blocks_twice (block_of c.args.s) (block_of c.args.k) refl
+    let k = block_of c.args.k in
+    ap (λ b. xor_blocks b k) (ap mix_columns c.restored.ensures ∙ c.unmixed.ensures ∙ c.add_key.ensures)
+    ∙ xor_blocks_twice (block_of c.args.s) k refl

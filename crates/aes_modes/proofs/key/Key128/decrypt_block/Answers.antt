@@ -1,4 +1,4 @@
-use Rattle.std.proofs.Common.{◌≡◌, ℕ, suc, ◌+◌, ◌-◌, ◌<◌, ◌≤◌, List, [], slice_index_or, refl, sym, subst, ap, ◌∙◌, arith}
+use Rattle.std.proofs.Common.{◌≡◌, ℕ, suc, ◌+◌, ◌-◌, List, [], slice_index_or, refl, sym, subst, ap, ◌∙◌, arith}
 use Rattle.aes_modes.specs.Cipher.{IsBlock, xor_blocks, round, last_round, key_expansion, rounds, cipher}
 use Rattle.aes_modes.specs.Words.{block_of}
 use Rattle.aes_modes.proofs.Squares.{round_key_at, IsBlock_block_of, xor_blocks_twice}

@@ -1,4 +1,4 @@
-use Rattle.std.proofs.Common.{◌≡◌, ℕ, suc, ◌+◌, ◌-◌, ◌<◌, ◌≤◌, List, sym, ap, ◌∙◌, arith}
+use Rattle.std.proofs.Common.{◌≡◌, ℕ, suc, ◌+◌, ◌-◌, sym, ap, ◌∙◌, arith}
 use Rattle.aes_modes.specs.Cipher.{xor_blocks, round, last_round, key_expansion, rounds, cipher}
 use Rattle.aes_modes.proofs.Squares.{round_key_at}
 use Rattle.aes_modes.proofs.key.Key128.encrypt_block.Goals as goal

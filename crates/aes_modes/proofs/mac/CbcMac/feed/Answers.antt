@@ -1,4 +1,4 @@
-use Rattle.std.proofs.Common.{◌≡◌, List, ℕ, ◌+◌, ◌-◌, ◌*◌, ◌/◌, length, subst, arith}
+use Rattle.std.proofs.Common.{List, ℕ, ◌+◌, ◌-◌, ◌*◌, ◌/◌, length, subst, arith}
 use Rattle.aes_modes.specs.Modes.{Holds}
 use Rattle.aes_modes.proofs.Chaining.{append-cuts}
 use Rattle.aes_modes.proofs.mac.CbcMac.feed.Goals as goal

@@ -1,4 +1,4 @@
-use Rattle.std.proofs.Common.{◌≡◌, List, ℕ, [], ◌∷◌, ◌++◌, subst, sym, arith}
+use Rattle.std.proofs.Common.{List, ℕ, [], ◌∷◌, ◌++◌, subst, sym, arith}
 use Rattle.aes_modes.specs.Modes.{MacState, Holds}
 use Rattle.aes_modes.proofs.Chaining.{Holds_octet, Holds_last_octet}
 use Rattle.aes_modes.proofs.mac.CbcMac.feed_octet.Goals as goal

@@ -1,4 +1,4 @@
-use Rattle.std.proofs.Common.{◌≡◌, List, ℕ, ◌++◌, [], subst, sym, arith}
+use Rattle.std.proofs.Common.{List, ℕ, subst, sym, arith}
 use Rattle.std.proofs.lemmas.List.{append-nil}
 use Rattle.aes_modes.specs.Modes.{Holds}
 use Rattle.aes_modes.proofs.mac.CbcMac.feed_octets.Goals as goal
