@@ -1,0 +1,5 @@
+pub mod Gate
+pub mod Nvm
+pub mod Plan
+pub mod SimNvm
+pub mod Write
