@@ -6,7 +6,7 @@ use Rattle.nvm_model.specs.Nvm.{State, HasCause, Leaves, LeavesOnly, Reads, Make
 use Rattle.nvm_model.specs.declared.fault.NvmFault.{NvmFault}
 use Rattle.nvm_model.specs.declared.fault.NvmFault.TheVariants.{Failed, Cut}
 use Rattle.nvm_model.specs.declared.plan.Plan.{Plan}
-use Rattle.nvm_model.proofs.Lists.{written-append, reached_front, reached_back, part_front, part_back, strike-append, and_then_whole, and_then_stopped, torn_same}
+use Rattle.nvm_model.proofs.Lists.{written-append, reached_front, reached_back, part_front, part_back, strike-append, and_then_whole, and_then_stopped, torn_same, length-put}
 
 -- after a call that was answered Ok
 cause_goes_on : {answer : Option NvmFault} {a b c : State} → HasCause None a b → HasCause answer b c → HasCause answer a c
@@ -128,3 +128,8 @@ makes_not_read w writes {fault = fault} {a = a} {b = b} {p = p} {q = q} read = r
   off_plan = λ _. read.plan;
   told = λ plan is on. absurd (cc (read.never_fails_where_told (rw is refl) on));
 }
+
+-- A whole write keeps the size.
+pub size_after : {w : Write} {a b : State} {p q : ℕ → List ℕ → Type 0} → Makes (w ∷ []) None a b p q → w.at + length w.bytes ≤ length a.octets
+    → length b.octets ≡ length a.octets
+size_after {w = w} {a = a} made inside = ap length made.octets ∙ length-put w a.octets inside

@@ -34,3 +34,8 @@ Reached (w ∷ writes) old new = TornBy w old new ⊎ Reached writes (put w old)
 abbrev pub PartWritten : List Write → List ℕ → List ℕ → Type 0
 PartWritten [] old new = ⊥
 PartWritten (w ∷ writes) old new = TornBy w old new ⊎ PartWritten writes (put w old) new
+
+-- a write that is not empty, in a memory of this size
+pub record FitsIn (size : ℕ) (w : Write) : Type 0 where
+  pub inside : w.at + length w.bytes ≤ size
+  pub not_empty : 0 < length w.bytes

@@ -2,11 +2,15 @@
 #![tactic(auto)]
 
 mod fault;
+mod gate;
 mod nvm;
 mod plan;
 mod sim;
+mod turns;
 
 pub use fault::NvmFault;
+pub use gate::{OPEN, write_gated};
 pub use nvm::Nvm;
 pub use plan::{Armed, Plan};
 pub use sim::SimNvm;
+pub use turns::{Piece, write_in_turn};
