@@ -1,12 +1,13 @@
 -- Calls one after another: reads and writes of one memory.
 use Rattle.std.proofs.Common.{◌≡◌, ◌⊎◌, ℕ, ◌+◌, ◌≤◌, Bool, true, false, List, [], ◌∷◌, ◌++◌, length, Option, None, Some, refl, sym, ap, subst, ◌∙◌, inl, inr, arith, length-append}
 use Rattle.nvm_model.specs.Write.{Write, put, written, Torn, Reached, PartWritten}
-use Rattle.nvm_model.specs.Plan.{Struck, and_then, strike}
-use Rattle.nvm_model.specs.Nvm.{State, HasCause, Leaves, LeavesOnly, Reads, Makes, IsStruck, Rose}
+use Rattle.std.specs.Prelude.{Result, Ok, Err, IsOk}
+use Rattle.nvm_model.specs.Plan.{Struck, and_then, strike, unarmed}
+use Rattle.nvm_model.specs.Nvm.{State, HasCause, Leaves, LeavesOnly, Reads, Makes, IsStruck, Rose, fault_of}
 use Rattle.nvm_model.specs.declared.fault.NvmFault.{NvmFault}
 use Rattle.nvm_model.specs.declared.fault.NvmFault.TheVariants.{Failed, Cut}
 use Rattle.nvm_model.specs.declared.plan.Plan.{Plan}
-use Rattle.nvm_model.proofs.Lists.{written-append, reached_front, reached_back, part_front, part_back, strike-append, and_then_whole, and_then_stopped, torn_same, length-put}
+use Rattle.nvm_model.proofs.Lists.{written-append, reached_front, reached_back, part_front, part_back, strike-append, and_then_whole, and_then_stopped, torn_same, length-put, strike_unarmed}
 
 -- after a call that was answered Ok
 cause_goes_on : {answer : Option NvmFault} {a b c : State} → HasCause None a b → HasCause answer b c → HasCause answer a c
@@ -133,3 +134,15 @@ makes_not_read w writes {fault = fault} {a = a} {b = b} {p = p} {q = q} read = r
 pub size_after : {w : Write} {a b : State} {p q : ℕ → List ℕ → Type 0} → Makes (w ∷ []) None a b p q → w.at + length w.bytes ≤ length a.octets
     → length b.octets ≡ length a.octets
 size_after {w = w} {a = a} made inside = ap length made.octets ∙ length-put w a.octets inside
+
+ok_of : {T : Type 0} (result : Result T NvmFault) → fault_of result ≡ None → IsOk result
+ok_of (Ok _) is = refl
+ok_of (Err _) is = absurd cc
+
+-- Where the memory tells that nothing is armed, and power is on, nothing strikes.
+pub makes_unarmed : {T : Type 0} {writes : List Write} {a b : State} {p q : ℕ → List ℕ → Type 0} (result : Result T NvmFault)
+    → Makes writes (fault_of result) a b p q → a.plan ≡ Some unarmed → a.powered ≡ true → IsOk result × (b.plan ≡ Some unarmed)
+makes_unarmed {writes = writes} {a = a} result made is on =
+    let struck = made.told unarmed is on in
+    let same = strike_unarmed writes a.octets in
+    (ok_of result (struck.answered ∙ ap (λ (s : Struck). s.answer) same), struck.plan ∙ ap (λ (s : Struck). Some s.plan) same)

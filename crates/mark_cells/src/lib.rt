@@ -1,0 +1,8 @@
+//! Cells that keep one number each through a loss of power inside any write.
+#![tactic(auto)]
+
+mod cell;
+mod fault;
+
+pub use cell::{CELL_SIZE, cell_reading, format_cell, raise_cell, read_cell};
+pub use fault::CellFault;
