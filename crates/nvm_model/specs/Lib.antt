@@ -1,4 +1,6 @@
+pub mod FailingNvm
 pub mod Gate
+pub mod LastWrite
 pub mod Nvm
 pub mod Piece
 pub mod Plan

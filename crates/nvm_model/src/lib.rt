@@ -6,6 +6,7 @@ mod gate;
 mod nvm;
 mod plan;
 mod sim;
+pub mod trial;
 mod turns;
 
 pub use fault::NvmFault;
