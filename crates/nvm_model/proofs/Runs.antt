@@ -3,14 +3,14 @@ use Rattle.std.proofs.Common.{◌≡◌, ◌⊎◌, ℕ, ◌+◌, ◌≤◌, Boo
 use Rattle.nvm_model.specs.Write.{Write, put, written, Torn, Reached, PartWritten}
 use Rattle.std.specs.Prelude.{Result, Ok, Err, IsOk}
 use Rattle.nvm_model.specs.Plan.{Struck, and_then, strike, unarmed}
-use Rattle.nvm_model.specs.Nvm.{State, HasCause, Leaves, LeavesOnly, Reads, Makes, IsStruck, Rose, fault_of}
+use Rattle.nvm_model.specs.Nvm.{State, HasNvmCause, Leaves, LeavesOnly, Reads, Makes, IsStruck, fault_of}
 use Rattle.nvm_model.specs.declared.fault.NvmFault.{NvmFault}
 use Rattle.nvm_model.specs.declared.fault.NvmFault.TheVariants.{Failed, Cut}
 use Rattle.nvm_model.specs.declared.plan.Plan.{Plan}
 use Rattle.nvm_model.proofs.Lists.{written-append, reached_front, reached_back, part_front, part_back, strike-append, and_then_whole, and_then_stopped, torn_same, length-put, strike_unarmed}
 
 -- after a call that was answered Ok
-cause_goes_on : {answer : Option NvmFault} {a b c : State} → HasCause None a b → HasCause answer b c → HasCause answer a c
+cause_goes_on : {answer : Option NvmFault} {a b c : State} → HasNvmCause None a b → HasNvmCause answer b c → HasNvmCause answer a c
 cause_goes_on first then = record {
   faults = omega arith;
   cuts = omega arith;

@@ -1,5 +1,4 @@
-use Rattle.std.specs.Prelude.{◌≡◌, ◌⊎◌, ℕ, ◌<◌, true, List, None, length}
-use Rattle.std.proofs.Common.{ap, inl, inr, refl, arith}
+use Rattle.std.specs.Prelude.{◌≡◌, ◌⊎◌, ℕ, ◌-◌, ◌<◌, true, List, None}
 use Rattle.nvm_model.specs.Nvm.{State}
 use Rattle.nvm_model.specs.Write.{Torn}
 use Rattle.nvm_model.specs.declared.trial.FailingNvm.{FailingNvm}
@@ -19,6 +18,15 @@ failing_state m = record {
 abbrev pub failing_call : FailingNvm → ℕ
 failing_call m = m.call
 
+-- the octet that a write which fails leaves in its range
+abbrev pub failing_torn : FailingNvm → ℕ
+failing_torn m = m.torn
+
 -- these octets, or since before the last write any in the range of that write
-abbrev pub MayHaveLeft : FailingNvm → ℕ → List ℕ → Type 0
-MayHaveLeft m t image = (image ≡ m.octets.items) ⊎ ((t < m.clock) × Torn m.last_at m.last_len m.octets.items image)
+abbrev pub failing_images : FailingNvm → ℕ → List ℕ → Type 0
+failing_images m t image = (image ≡ m.octets.items) ⊎ ((t < m.clock) × Torn m.last_at m.last_len m.octets.items image)
+
+-- one call nearer to the one that fails
+pub record CountsCall (old new : FailingNvm) : Type 0 where
+  pub call : failing_call new ≡ failing_call old - 1
+  pub torn : failing_torn new ≡ failing_torn old

@@ -1,5 +1,6 @@
 -- What calls of a memory do, for one call and for a list of writes in turn.
-use Rattle.std.specs.Prelude.{◌≡◌, ◌⊎◌, ℕ, ◌+◌, ◌-◌, ◌^◌, ◌≤◌, min, Bool, true, false, List, length, Option, Some, None, IsSome, Result, Ok, Err}
+use Rattle.std.specs.Prelude.{◌≡◌, ◌⊎◌, ℕ, ◌+◌, ◌≤◌, Bool, true, false, List, length, Option, Some, None, IsSome, Result, Ok, Err}
+use Rattle.knx_base.specs.Faults.{Rose}
 use Rattle.nvm_model.specs.Write.{Write, written, Reached, PartWritten}
 use Rattle.nvm_model.specs.Plan.{Struck, strike}
 use Rattle.nvm_model.specs.declared.fault.NvmFault.{NvmFault}
@@ -21,10 +22,6 @@ abbrev pub fault_of : {T : Type 0} → Result T NvmFault → Option NvmFault
 fault_of (Ok _) = None
 fault_of (Err fault) = Some fault
 
--- A count has risen, or stands at its last value.
-abbrev pub Rose : ℕ → ℕ → Type 0
-Rose before now = min (before + 1) (2 ^ 64 - 1) ≤ now
-
 -- whether an answer leaves power on
 abbrev pub is_on_after : Option NvmFault → Bool
 is_on_after None = true
@@ -32,7 +29,7 @@ is_on_after (Some Failed) = true
 is_on_after (Some Cut) = false
 
 -- Each fault has its cause. With power off the answer is Cut.
-pub record HasCause (answer : Option NvmFault) (old new : State) : Type 0 where
+pub record HasNvmCause (answer : Option NvmFault) (old new : State) : Type 0 where
   pub faults : old.faults ≤ new.faults
   pub cuts : old.cuts ≤ new.cuts
   pub failed : answer ≡ Some Failed → Rose old.faults new.faults
@@ -50,7 +47,7 @@ SameImages clock past since = (t : ℕ) (c : List ℕ) → t ≤ clock → (sinc
 
 -- one read, or several in turn
 pub record Reads (answer : Option NvmFault) (old new : State) (past since : ℕ → List ℕ → Type 0) : Type 0 where
-  pub cause : HasCause answer old new
+  pub cause : HasNvmCause answer old new
   pub octets : new.octets ≡ old.octets
   pub clock : new.clock ≡ old.clock
   pub plan : new.plan ≡ old.plan
@@ -70,7 +67,7 @@ pub record IsStruck (struck : Struck) (answer : Option NvmFault) (new : State) :
 
 -- these writes in turn, up to the first that is not answered Ok
 pub record Makes (writes : List Write) (answer : Option NvmFault) (old new : State) (past since : ℕ → List ℕ → Type 0) : Type 0 where
-  pub cause : HasCause answer old new
+  pub cause : HasNvmCause answer old new
   pub later : old.clock ≤ new.clock
   pub few : new.clock ≤ old.clock + length writes
   pub images : LeavesOnly old.clock past since (Reached writes old.octets)

@@ -17,7 +17,7 @@ pub trait Nvm {
 
     /// The number of octets.
     fn size(&self) -> usize
-        ensures { result ≡ length (state self.now).octets };
+        ensures octets { result ≡ length (state self.now).octets };
 
     /// Reads the octets from `at` on into the whole of `out`.
     fn read(&mut self, at: usize, out: &mut [u8]) -> Result<(), NvmFault>

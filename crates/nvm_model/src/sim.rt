@@ -1,7 +1,8 @@
-ghost use Rattle.std.specs.Prelude.{◌≡◌, ◌≤◌, true, false, Some, None, IfOk, length, replicate, refl};
+ghost use Rattle.std.specs.Prelude.{◌≡◌, ◌+◌, ◌<◌, ◌≤◌, [], ◌∷◌, true, false, Some, None, OnOk, IfOk, option_map, length, replicate, slice_range, refl};
 ghost use Rattle.std.proofs.Common.{ap, arith};
 ghost use Rattle.nvm_model.specs.Plan.{due, lessened, unarmed};
-ghost use Rattle.nvm_model.specs.SimNvm.{sim_state};
+ghost use Rattle.nvm_model.specs.SimNvm.{sim_state, sim_images, with_cut, with_fault, CountsWrite};
+ghost use Rattle.nvm_model.specs.Nvm.{Reads, Makes, fault_of};
 
 use crate::{Armed, Nvm, NvmFault, Plan};
 use knx_base::NoMemory;
@@ -21,7 +22,7 @@ pub struct SimNvm {
 impl SimNvm {
     /// A memory of this many octets, all zero, with power on and nothing armed.
     pub fn new(alloc: Global, size: usize) -> Result<SimNvm, NoMemory>
-        ensures { IfOk result (λ m. sim_state m ≡ record {
+        ensures zero { IfOk result (λ m. sim_state m ≡ record {
             octets = replicate size 0;
             powered = true;
             clock = 0;
@@ -46,9 +47,9 @@ impl SimNvm {
     /// Arms a cut at the `write`-th write from now that is made with power on.
     /// It leaves `torn` in the whole range of that write. It replaces a cut that is armed.
     pub fn arm_cut(&mut self, write: u32, torn: u8)
-        requires { 1 ≤ write }
-        ensures { sim_state self.new ≡ record (sim_state self.old) {
-            plan = Some (record self.old.plan { cut = Some (record { writes = write; torn = torn }) });
+        requires counts_from_one { 1 ≤ write }
+        ensures armed { sim_state self.new ≡ record (sim_state self.old) {
+            plan = option_map (with_cut write torn) (sim_state self.old).plan;
         } }
     {
         self.plan.cut = Some(Armed {
@@ -60,9 +61,9 @@ impl SimNvm {
     /// Arms a fault at the `write`-th write from now that is made with power on.
     /// It leaves `torn` in the whole range of that write. It replaces a fault that is armed.
     pub fn arm_fail(&mut self, write: u32, torn: u8)
-        requires { 1 ≤ write }
-        ensures { sim_state self.new ≡ record (sim_state self.old) {
-            plan = Some (record self.old.plan { fault = Some (record { writes = write; torn = torn }) });
+        requires counts_from_one { 1 ≤ write }
+        ensures armed { sim_state self.new ≡ record (sim_state self.old) {
+            plan = option_map (with_fault write torn) (sim_state self.old).plan;
         } }
     {
         self.plan.fault = Some(Armed {
@@ -73,21 +74,21 @@ impl SimNvm {
 
     /// Power returns. What is armed stays armed.
     pub fn power_on(&mut self)
-        ensures { sim_state self.new ≡ record (sim_state self.old) { powered = true } }
+        ensures power { sim_state self.new ≡ record (sim_state self.old) { powered = true } }
     {
         self.powered = true;
     }
 
     /// Power is taken away between two calls. What is armed stays armed.
     pub fn power_off(&mut self)
-        ensures { sim_state self.new ≡ record (sim_state self.old) { powered = false } }
+        ensures power { sim_state self.new ≡ record (sim_state self.old) { powered = false } }
     {
         self.powered = false;
     }
 
     /// All octets, with power on or off.
     pub fn image(&self) -> &[u8]
-        ensures { result.now ≡ (sim_state self.now).octets }
+        ensures octets { result.now ≡ (sim_state self.now).octets }
     {
         &self.octets
     }
@@ -120,7 +121,7 @@ fn lessened(armed: Option<Armed>) -> Option<Armed>
 impl Nvm for SimNvm {
     ghost state = { sim_state };
 
-    ghost images = { λ m t c. c ≡ m.octets.items };
+    ghost images = { sim_images };
 
     ghost only_now = { λ m c is. is };
 
@@ -134,7 +135,13 @@ impl Nvm for SimNvm {
         self.octets.len()
     }
 
-    fn read(&mut self, at: usize, out: &mut [u8]) -> Result<(), NvmFault> {
+    fn read(&mut self, at: usize, out: &mut [u8]) -> Result<(), NvmFault>
+        requires inside { at + length out.old ≤ length (sim_state self.old).octets }
+        requires not_empty { 0 < length out.old }
+        ensures octets { OnOk result (out.new ≡ slice_range (sim_state self.old).octets at (at + length out.old)) }
+        ensures reads { Reads (fault_of result) (sim_state self.old) (sim_state self.new) (sim_images self.old) (sim_images self.new) }
+        ensures same { sim_state self.new ≡ sim_state self.old }
+    {
         if !self.powered {
             return Err(NvmFault::Cut);
         }
@@ -142,7 +149,13 @@ impl Nvm for SimNvm {
         Ok(())
     }
 
-    fn write(&mut self, at: usize, bytes: &[u8]) -> Result<(), NvmFault> {
+    fn write(&mut self, at: usize, bytes: &[u8]) -> Result<(), NvmFault>
+        requires inside { at + length bytes.now ≤ length (sim_state self.old).octets }
+        requires not_empty { 0 < length bytes.now }
+        ensures makes { Makes (record { at = at; bytes = bytes.now } ∷ []) (fault_of result)
+            (sim_state self.old) (sim_state self.new) (sim_images self.old) (sim_images self.new) }
+        ensures counts { CountsWrite (fault_of result) (sim_state self.old) (sim_state self.new) }
+    {
         if !self.powered {
             return Err(NvmFault::Cut);
         }

@@ -1,9 +1,11 @@
 //! A second memory, for trying code that is generic in [`Nvm`] with one that tells less than `SimNvm` does.
-ghost use Rattle.std.specs.Prelude.{◌≡◌, ◌⊎◌, ◌+◌, ◌-◌, ◌<◌, ◌≤◌, ◌↔◌, [], ◌∷◌, true, None, IfOk, OnOk, IsErr, IsTrue, length, replicate, slice_range, refl};
+ghost use Rattle.std.specs.Prelude.{◌≡◌, ◌⊎◌, ◌+◌, ◌-◌, ◌<◌, ◌≤◌, ◌↔◌, [], ◌∷◌, true, None, IfOk, OnOk, OnErr, IsErr, IsTrue, length, replicate, slice_range, refl};
 ghost use Rattle.std.proofs.Common.{arith, inl};
-ghost use Rattle.nvm_model.specs.FailingNvm.{failing_state, failing_call, MayHaveLeft};
+ghost use Rattle.nvm_model.specs.FailingNvm.{failing_state, failing_call, failing_torn, failing_images, CountsCall};
 ghost use Rattle.nvm_model.specs.LastWrite.{only_last, size_last};
 ghost use Rattle.nvm_model.specs.Nvm.{Makes, Reads, fault_of};
+ghost use Rattle.nvm_model.specs.Plan.{torn_to};
+ghost use Rattle.nvm_model.specs.Write.{put};
 
 use crate::{Nvm, NvmFault};
 use knx_base::NoMemory;
@@ -35,6 +37,7 @@ impl FailingNvm {
             plan = None;
         }) }
         ensures call { IfOk result (λ m. failing_call m ≡ call) }
+        ensures torn { IfOk result (λ m. failing_torn m ≡ torn) }
     {
         Ok(FailingNvm {
             octets: vec![in alloc; 0u8; size]?,
@@ -49,7 +52,7 @@ impl FailingNvm {
 
     /// All octets.
     pub fn image(&self) -> &[u8]
-        ensures { result.now ≡ (failing_state self.now).octets }
+        ensures octets { result.now ≡ (failing_state self.now).octets }
     {
         &self.octets
     }
@@ -68,7 +71,7 @@ impl FailingNvm {
 impl Nvm for FailingNvm {
     ghost state = { failing_state };
 
-    ghost images = { MayHaveLeft };
+    ghost images = { failing_images };
 
     ghost only_now = { λ m image. only_last m.clock m.last_at m.last_len m.octets.items image };
 
@@ -82,7 +85,15 @@ impl Nvm for FailingNvm {
         self.octets.len()
     }
 
-    fn read(&mut self, at: usize, out: &mut [u8]) -> Result<(), NvmFault> {
+    fn read(&mut self, at: usize, out: &mut [u8]) -> Result<(), NvmFault>
+        requires inside { at + length out.old ≤ length (failing_state self.old).octets }
+        requires not_empty { 0 < length out.old }
+        ensures octets { OnOk result (out.new ≡ slice_range (failing_state self.old).octets at (at + length out.old)) }
+        ensures reads { Reads (fault_of result)
+            (failing_state self.old) (failing_state self.new) (failing_images self.old) (failing_images self.new) }
+        ensures fails { IsErr result ↔ (failing_call self.old ≡ 1) }
+        ensures counts { CountsCall self.old self.new }
+    {
         if self.is_struck() {
             self.faults = self.faults.saturating_add(1);
             return Err(NvmFault::Failed);
@@ -91,7 +102,16 @@ impl Nvm for FailingNvm {
         Ok(())
     }
 
-    fn write(&mut self, at: usize, bytes: &[u8]) -> Result<(), NvmFault> {
+    fn write(&mut self, at: usize, bytes: &[u8]) -> Result<(), NvmFault>
+        requires inside { at + length bytes.now ≤ length (failing_state self.old).octets }
+        requires not_empty { 0 < length bytes.now }
+        ensures makes { Makes (record { at = at; bytes = bytes.now } ∷ []) (fault_of result)
+            (failing_state self.old) (failing_state self.new) (failing_images self.old) (failing_images self.new) }
+        ensures fails { IsErr result ↔ (failing_call self.old ≡ 1) }
+        ensures torn { OnErr result ((failing_state self.new).octets
+            ≡ put (torn_to (failing_torn self.old) (record { at = at; bytes = bytes.now })) (failing_state self.old).octets) }
+        ensures counts { CountsCall self.old self.new }
+    {
         let struck = self.is_struck();
         self.clock = self.clock.saturating_add(1);
         self.last_at = at;
