@@ -7,7 +7,7 @@ use Rattle.nvm_model.specs.Nvm.{State, HasNvmCause, Leaves, LeavesOnly, Reads, M
 use Rattle.nvm_model.specs.declared.fault.NvmFault.{NvmFault}
 use Rattle.nvm_model.specs.declared.fault.NvmFault.TheVariants.{Failed, Cut}
 use Rattle.nvm_model.specs.declared.plan.Plan.{Plan}
-use Rattle.nvm_model.proofs.Lists.{written-append, reached_front, reached_back, part_front, part_back, strike-append, and_then_whole, and_then_stopped, torn_same, length-put, strike_unarmed}
+use Rattle.nvm_model.proofs.Lists.{written-append, reached_front, reached_back, part_front, part_back, strike-append, and_then_whole, and_then_stopped, torn_same, strike_unarmed}
 
 -- after a call that was answered Ok
 cause_goes_on : {answer : Option NvmFault} {a b c : State} → HasNvmCause None a b → HasNvmCause answer b c → HasNvmCause answer a c
@@ -56,6 +56,7 @@ makes_goes_on {xs = xs} {ys = ys} {answer = answer} {a = a} {b = b} {c = c} firs
   cause = cause_goes_on first.cause then.cause;
   later = omega (arith, first.later, then.later);
   few = omega (arith, first.few, then.few, length-append xs ys);
+  size = then.size ∙ first.size;
   images = λ t image early since. elim (then.images t image (omega (arith, first.later)) since) [
       inl past ↦ elim (first.images t image early past) [
           inl past ↦ inl past
@@ -75,6 +76,7 @@ makes_stops {xs = xs} ys {fault = fault} {a = a} {b = b} first = record {
   cause = first.cause;
   later = first.later;
   few = omega (arith, first.few, length-append xs ys);
+  size = first.size;
   images = λ t image early since. elim (first.images t image early since) [
       inl past ↦ inl past
     | inr reached ↦ inr (reached_front xs ys a.octets image reached) ];
@@ -106,6 +108,7 @@ makes_after_read {writes = writes} {answer = answer} {a = a} {b = b} {c = c} fir
   cause = cause_goes_on first.cause then.cause;
   later = omega (arith, first.clock, then.later);
   few = omega (arith, first.clock, then.few);
+  size = then.size ∙ ap length first.octets;
   images = λ t image early since. elim (then.images t image (omega (arith, first.clock)) since) [
       inl past ↦ inl ((first.images t image early).0 past)
     | inr reached ↦ inr (subst (λ o. Reached writes o image) first.octets reached) ];
@@ -123,17 +126,13 @@ makes_not_read w writes {fault = fault} {a = a} {b = b} {p = p} {q = q} read = r
   cause = read.cause;
   later = omega (arith, read.clock);
   few = omega (arith, read.clock);
+  size = ap length read.octets;
   images = λ t image early since. inl ((read.images t image early).0 since);
   octets = inl (subst (λ o. Torn w.at (length w.bytes) a.octets o) (sym read.octets) (torn_same _ _ a.octets));
   off = λ _. read.octets;
   off_plan = λ _. read.plan;
   told = λ plan is on. absurd (cc (read.never_fails_where_told (rw is refl) on));
 }
-
--- A whole write keeps the size.
-pub size_after : {w : Write} {a b : State} {p q : ℕ → List ℕ → Type 0} → Makes (w ∷ []) None a b p q → w.at + length w.bytes ≤ length a.octets
-    → length b.octets ≡ length a.octets
-size_after {w = w} {a = a} made inside = ap length made.octets ∙ length-put w a.octets inside
 
 ok_of : {T : Type 0} (result : Result T NvmFault) → fault_of result ≡ None → IsOk result
 ok_of (Ok _) is = refl

@@ -1,7 +1,7 @@
 -- The writes of a slice of pieces, in turn.
-use Rattle.std.proofs.Common.{◌≡◌, ℕ, ◌+◌, ◌<◌, List, [], ◌∷◌, ◌++◌, length, get_or, take, drop, map, All, Option, None, Some, refl, sym, ap, subst, ◌∙◌, arith}
+use Rattle.std.proofs.Common.{◌≡◌, ℕ, ◌+◌, ◌<◌, List, [], ◌∷◌, ◌++◌, length, get_or, take, drop, map, Option, None, Some, refl, sym, ap, subst, ◌∙◌}
 use Rattle.std.proofs.lemmas.List.{map_more, map-append, take-append-drop}
-use Rattle.nvm_model.specs.Write.{Write, FitsIn}
+use Rattle.nvm_model.specs.Write.{Write}
 use Rattle.nvm_model.specs.Plan.{and_then, strike}
 use Rattle.nvm_model.specs.declared.plan.Plan.{Plan}
 use Rattle.nvm_model.proofs.Lists.{strike-append}
@@ -9,7 +9,7 @@ use Rattle.nvm_model.specs.Piece.{write_of}
 use Rattle.nvm_model.specs.Nvm.{State, Makes}
 use Rattle.nvm_model.specs.declared.turns.Piece.{Piece}
 use Rattle.nvm_model.specs.declared.fault.NvmFault.{NvmFault}
-use Rattle.nvm_model.proofs.Runs.{makes_goes_on, makes_stops, size_after}
+use Rattle.nvm_model.proofs.Runs.{makes_goes_on, makes_stops}
 
 -- one more piece that was written whole
 pub makes_more : {a b c : State} {p q r : ℕ → List ℕ → Type 0} (first : Write) (rest : List Piece) (i : ℕ) (d : Piece) → i < length rest
@@ -27,11 +27,6 @@ makes_no_more {a = a} {c = c} {p = p} {r = r} {fault = fault} first rest i d ins
         ap (λ (writes : List Write). writes ++ map write_of (drop (i + 1) rest)) (sym (map_more write_of rest i d inside))
         ∙ sym (map-append write_of (take (i + 1) rest) (drop (i + 1) rest)) ∙ ap (map write_of) (take-append-drop (i + 1) rest) in
     subst (λ (writes : List Write). Makes (first ∷ writes) (Some fault) a c p r) all (makes_stops (map write_of (drop (i + 1) rest)) (makes_goes_on before this))
-
--- and the size is kept
-pub size_more : {b c : State} {q r : ℕ → List ℕ → Type 0} {n : ℕ} (rest : List Piece) (i : ℕ) (d : Piece) → i < length rest
-    → All (λ piece. FitsIn n (write_of piece)) rest → length b.octets ≡ n → Makes (write_of (get_or rest i d) ∷ []) None b c q r → length c.octets ≡ n
-size_more rest i d inside fit same this = let fits : FitsIn _ _ = fit i d inside in size_after this (omega (arith, fits.inside)) ∙ same
 
 -- the strike of writes that are divided
 pub strike_divided : (writes front behind : List Write) (plan : Plan) (octets : List ℕ) → front ++ behind ≡ writes

@@ -70,6 +70,7 @@ pub record Makes (writes : List Write) (answer : Option NvmFault) (old new : Sta
   pub cause : HasNvmCause answer old new
   pub later : old.clock ≤ new.clock
   pub few : new.clock ≤ old.clock + length writes
+  pub size : length new.octets ≡ length old.octets
   pub images : LeavesOnly old.clock past since (Reached writes old.octets)
   pub octets : Leaves writes answer old.octets new.octets
   pub off : old.powered ≡ false → new.octets ≡ old.octets

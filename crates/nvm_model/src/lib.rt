@@ -6,6 +6,8 @@ mod gate;
 mod nvm;
 mod plan;
 mod sim;
+#[cfg(test)]
+mod tests;
 pub mod trial;
 mod turns;
 
