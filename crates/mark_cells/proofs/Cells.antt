@@ -1,13 +1,14 @@
 -- What a raise leaves in a cell, at each moment and at its end, and what leaves a cell alone.
-use Rattle.std.proofs.Common.{◌≡◌, ◌⊎◌, ℕ, ◌+◌, ◌^◌, ◌<◌, ◌≤◌, max, Bool, true, false, List, [], ◌∷◌, ◌++◌, length, length-append, Option, None, Some, refl, sym, ap, subst, ◌∙◌, inl, inr, arith, add-zero, zero-add, add_assoc}
+use Rattle.std.proofs.Common.{◌≡◌, ◌⊎◌, ℕ, ◌+◌, ◌^◌, ◌<◌, ◌≤◌, Bool, true, false, List, [], ◌∷◌, ◌++◌, length, length-append, Option, None, Some, refl, sym, ap, subst, ◌∙◌, inl, inr, arith, zero-add, add_assoc}
 use Rattle.std.specs.Prelude.{slice_index, slice_range, replicate, Result, Ok, Err, OnOk}
+use Rattle.std.specs.List.{All}
 use Rattle.knx_base.specs.Number.{number_at, octets_of}
 use Rattle.knx_base.proofs.NumberLemmas.{length-octets_of, number_at-octets_of, number_at_same}
-use Rattle.nvm_model.specs.Gate.{is_open, gated_writes, HasBody, IsOpenOver, IsAsBefore, IsGatedMoment}
+use Rattle.nvm_model.specs.Gate.{is_open, gated_writes, HasBody, IsOpenOver, IsGatedMoment}
 use Rattle.nvm_model.specs.Nvm.{State, LeavesOnly, Reads, Makes, fault_of}
-use Rattle.nvm_model.specs.Write.{Write, put, Torn, Reached, written}
+use Rattle.nvm_model.specs.Write.{Write, FitsIn, put, Torn, Reached, written}
 use Rattle.nvm_model.specs.declared.fault.NvmFault.{NvmFault}
-use Rattle.nvm_model.proofs.GateLemmas.{gated_moment, gated_whole}
+use Rattle.nvm_model.proofs.GateLemmas.{gated_moment, gated_whole, gated_fit, gated_few}
 use Rattle.nvm_model.proofs.Lists.{torn_within, reached_whole, put_inside}
 use Rattle.nvm_model.proofs.Runs.{makes_after_read, makes_not_read}
 use Rattle.mark_cells.specs.Cell.{copy_number, greatest, reading, other_copy, cell_writes, formatted, format_writes, ReadsBelow, IsOldOrNew}
@@ -44,12 +45,14 @@ written_copy : (n gate : ℕ) (a c : List ℕ) → n < 2 ^ 48 → IsGatedMoment 
     → (copy_number c gate ≡ None) ⊎ ((copy_number c gate ≡ copy_number a gate) ⊎ (copy_number c gate ≡ Some n))
 written_copy n gate a c fits moment false shut = inl (copy_shut c gate shut)
 written_copy n gate a c fits moment true opened = elim moment.behind [
-    inl shut ↦ absurd (cc (opened, shut))
+  | inl shut ↦ absurd (cc (opened, shut))
   | inr rest ↦ elim rest [
-      inl kept ↦ inr (inl (copy_open c gate opened
-          ∙ ap Some (number_at_same c a (gate + 1) (gate + 1) (λ k h. kept.each k (omega (arith, length-octets_of n))))
-          ∙ sym (copy_open a gate kept.was_open)))
-    | inr has ↦ inr (inr (copy_open c gate opened ∙ ap Some (number_behind n gate c fits has))) ] ]
+    | inl kept ↦ inr (inl (copy_open c gate opened
+        ∙ ap Some (number_at_same c a (gate + 1) (gate + 1) (λ k h. kept.each k (omega (arith, length-octets_of n))))
+        ∙ sym (copy_open a gate kept.was_open)))
+    | inr has ↦ inr (inr (copy_open c gate opened ∙ ap Some (number_behind n gate c fits has)))
+  ]
+]
 
 -- the copy that a raise does not write
 kept_copy : (n gate other : ℕ) (a c : List ℕ) → IsGatedMoment gate (octets_of n) a c → (other + 7 ≤ gate) ⊎ (gate + 7 ≤ other)
@@ -90,17 +93,31 @@ record IsRaisedAt (a : List ℕ) (at p q : ℕ) : Type 0 where
 raised_at : (a : List ℕ) (at : ℕ) → (p : ℕ) × (q : ℕ) × IsRaisedAt a at p q
 unfolding other_copy
 raised_at a at = elim (beside (copy_number a at) (copy_number a (at + 7)) at) [
-    inl first ↦ (at, at + 7, record {
-      written = first.0; copies = in_order at; current = first.1; apart = inr (omega arith); low = omega arith; high = omega arith;
-    })
-  | inr second ↦ (at + 7, at, record {
+  | inl first ↦ (
+    at,
+    at + 7,
+    record {
+      written = first.0;
+      copies = in_order at;
+      current = first.1;
+      apart = inr (omega arith);
+      low = omega arith;
+      high = omega arith;
+    },
+  )
+  | inr second ↦ (
+    at + 7,
+    at,
+    record {
       written = second.0;
       copies = in_turn at;
       current = greatest-comm (copy_number a (at + 7)) (copy_number a at) ∙ second.1;
       apart = inl (omega arith);
       low = omega arith;
       high = omega arith;
-    }) ]
+    },
+  )
+]
 
 module _ (a c : List ℕ) (at n p q : ℕ) (cell : IsRaisedAt a at p q) (below : ReadsBelow a at n) (fits : n < 2 ^ 48)
     (moment : IsGatedMoment p (octets_of n) a c) where
@@ -115,8 +132,9 @@ module _ (a c : List ℕ) (at n p q : ℕ) (cell : IsRaisedAt a at p q) (below :
     outside = torn_within moment.outside cell.low (omega (arith, cell.high, length-octets_of n));
     reads = elim (greatest_of (copy_number c p) (copy_number a p) (copy_number a q) below.value n current_reads below.below cell.current
         (written_copy n p a c fits moment (is_open c p) refl)) [
-          inl old ↦ inl (now_reads ∙ old ∙ sym (cell.copies a ∙ cell.current))
-        | inr new ↦ inr (now_reads ∙ new) ];
+          | inl old ↦ inl (now_reads ∙ old ∙ sym (cell.copies a ∙ cell.current))
+          | inr new ↦ inr (now_reads ∙ new)
+        ];
   }
 
   raised_reads : IsOpenOver p (octets_of n) c → reading c at ≡ Some n
@@ -136,7 +154,7 @@ module _ (a : List ℕ) (at n : ℕ) (inside : at + 14 ≤ length a) where
   raise_moment below fits c reached =
       let (p, q, cell) = raised_at a at in
       let there : Reached (gated_writes p (is_open a p) (octets_of n)) a c =
-          subst (λ p. Reached (gated_writes p (is_open a p) (octets_of n)) a c) cell.written reached in
+      subst (λ p. Reached (gated_writes p (is_open a p) (octets_of n)) a c) cell.written reached in
       moment_of a c at n p q cell below fits (gated_moment p (is_open a p) (octets_of n) a c refl (fits_behind p cell.high) there)
 
   -- After a whole raise the cell reads the new number.
@@ -150,13 +168,17 @@ module _ (a : List ℕ) (at n : ℕ) (inside : at + 14 ≤ length a) where
       (raised_reads a all at n p q cell below fits moment (gated_whole p (is_open a p) (octets_of n) a (fits_behind p cell.high)))
 
 -- A raise is two writes or three.
-gated_few : (gate : ℕ) (was_open : Bool) (body : List ℕ) → length (gated_writes gate was_open body) ≤ 3
-gated_few gate true body = omega arith
-gated_few gate false body = omega arith
-
 pub cell_writes_few : (a : List ℕ) (at n : ℕ) → length (cell_writes a at n) ≤ 3
 unfolding cell_writes
 cell_writes_few a at n = gated_few (other_copy a at) (is_open a (other_copy a at)) (octets_of n)
+
+-- Each of them is inside the cell, and none is empty.
+pub cell_writes_fit : (a : List ℕ) (at n size : ℕ) → at + 14 ≤ size → All (FitsIn size) (cell_writes a at n)
+unfolding cell_writes
+cell_writes_fit a at n size inside =
+    let (p, q, cell) = raised_at a at in
+    let high : other_copy a at + 7 ≤ at + 14 = omega (arith, cell.written, cell.high) in
+    gated_fit (other_copy a at) size (is_open a (other_copy a at)) (octets_of n) (omega (arith, high, length-octets_of n)) (omega (arith, length-octets_of n))
 
 -- Any call that makes the writes of a raise leaves only such images,
 pub makes_moments : {answer : Option NvmFault} {a b : State} {p q : ℕ → List ℕ → Type 0} (at n : ℕ)
@@ -164,8 +186,9 @@ pub makes_moments : {answer : Option NvmFault} {a b : State} {p q : ℕ → List
     → Makes (cell_writes a.octets at n) answer a b p q → LeavesOnly a.clock p q (IsOldOrNew a.octets at n)
 makes_moments {a = a} at n inside below fits made =
     λ t image early since. elim (made.images t image early since) [
-        inl past ↦ inl past
-      | inr reached ↦ inr (raise_moment a.octets at n inside below fits image reached) ]
+      | inl past ↦ inl past
+      | inr reached ↦ inr (raise_moment a.octets at n inside below fits image reached)
+    ]
 
 -- and leaves the new number where it is answered Ok.
 pub makes_raised : {T : Type 0} {a b : State} {p q : ℕ → List ℕ → Type 0} (result : Result T NvmFault) (at n : ℕ)
@@ -185,8 +208,8 @@ makes_raise {answer = answer} {a = a} {b = b} {p = p} {r = r} cell body at other
     let place : at + other ≡ other_copy a.octets at = ap (λ k. at + k) found ∙ sym (other_same cell a.octets at copied) in
     let gate : is_open cell other ≡ is_open a.octets (other_copy a.octets at) = open_same cell a.octets at copied other below ∙ ap (is_open a.octets) place in
     let writes : gated_writes (at + other) (is_open cell other) body ≡ gated_writes (other_copy a.octets at) (is_open a.octets (other_copy a.octets at)) (octets_of n) =
-        ap (λ k. gated_writes k (is_open cell other) body) place ∙ ap (λ b. gated_writes (other_copy a.octets at) b body) gate
-        ∙ ap (gated_writes (other_copy a.octets at) (is_open a.octets (other_copy a.octets at))) is_body in
+    ap (λ k. gated_writes k (is_open cell other) body) place ∙ ap (λ b. gated_writes (other_copy a.octets at) b body) gate
+    ∙ ap (gated_writes (other_copy a.octets at) (is_open a.octets (other_copy a.octets at))) is_body in
     subst (λ (w : List Write). Makes w answer a b p r) writes (makes_after_read reads made)
 
 -- a call that does not come past that read makes none of them
@@ -195,9 +218,9 @@ pub makes_no_raise : {fault : NvmFault} {a b : State} {p q : ℕ → List ℕ �
 unfolding cell_writes
 makes_no_raise {fault = fault} {a = a} {b = b} {p = p} {q = q} at n reads =
     by_gate (other_copy a.octets at) (is_open a.octets (other_copy a.octets at)) where
-  by_gate : (gate : ℕ) (was_open : Bool) → Makes (gated_writes gate was_open (octets_of n)) (Some fault) a b p q
-  by_gate gate true = makes_not_read _ _ reads
-  by_gate gate false = makes_not_read _ _ reads
+      by_gate : (gate : ℕ) (was_open : Bool) → Makes (gated_writes gate was_open (octets_of n)) (Some fault) a b p q
+      by_gate gate true = makes_not_read _ _ reads
+      by_gate gate false = makes_not_read _ _ reads
 
 length-formatted : (n : ℕ) → length (formatted n) ≡ 14
 unfolding formatted

@@ -1,11 +1,10 @@
 -- The two copies of a cell: their numbers, the greatest of them, and the copy that is not current.
-use Rattle.std.proofs.Common.{◌≡◌, ◌⊎◌, ℕ, ◌+◌, ◌<◌, ◌≤◌, max, Bool, true, false, List, length, Option, None, Some, cond, refl, sym, ap, ◌∙◌, inl, inr, arith, add-zero, zero-add, add_assoc, leb-true, leb-false}
+use Rattle.std.proofs.Common.{◌≡◌, ◌⊎◌, ℕ, ◌+◌, ◌<◌, ◌≤◌, Bool, true, false, List, length, Option, None, Some, cond, refl, sym, ap, ◌∙◌, inl, inr, arith, add-zero, zero-add, add_assoc, leb-true, leb-false}
 use Rattle.std.specs.Prelude.{slice_index, slice_range, nat_le, ◌==◌}
 use Rattle.std.proofs.lemmas.Grind.{common_steps}
-use Rattle.knx_base.specs.Number.{number_at, octets_of}
+use Rattle.knx_base.specs.Number.{number_at}
 use Rattle.knx_base.proofs.NumberLemmas.{number_at_same}
 use Rattle.nvm_model.specs.Gate.{is_open}
-use Rattle.nvm_model.proofs.GateLemmas.{same_gate}
 use Rattle.mark_cells.specs.Cell.{copy_number, greatest, reading, place_beside, other_copy, IsUnformatted}
 
 pub greatest-comm : (a b : Option ℕ) → greatest a b ≡ greatest b a
@@ -40,7 +39,7 @@ pub copy_same : (xs ys : List ℕ) (i j : ℕ) → ((k : ℕ) → k < 7 → slic
 copy_same xs ys i j same =
     let gates : slice_index xs i ≡ slice_index ys j = simp add-zero at (same 0 (omega arith)) in
     let numbers : number_at xs (i + 1) ≡ number_at ys (j + 1) =
-        number_at_same xs ys (i + 1) (j + 1) (λ k h. simp add_assoc (same (1 + k) (omega arith))) in
+    number_at_same xs ys (i + 1) (j + 1) (λ k h. simp add_assoc (same (1 + k) (omega arith))) in
     ap (λ octet. cond (octet == 0xA5) (Some (number_at xs (i + 1))) None) gates ∙ ap (λ n. cond (is_open ys j) (Some n) None) numbers
 
 place_by : (le : Bool) (at : ℕ) → cond le (at + 7) at ≡ at + cond le 7 0

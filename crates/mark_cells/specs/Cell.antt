@@ -2,7 +2,7 @@
 -- A copy is a gate and the six octets of a number behind it, and counts while its gate is open.
 use Rattle.std.specs.Prelude.{◌≡◌, ◌⊎◌, ℕ, ◌+◌, ◌<◌, max, false, List, [], ◌∷◌, ◌++◌, replicate, Option, Some, None, Result, Ok, Err, nat_le, if◌then◌else◌}
 use Rattle.knx_base.specs.Number.{number_at, octets_of}
-use Rattle.nvm_model.specs.Gate.{is_open, gated_writes}
+use Rattle.nvm_model.specs.Gate.{open_octet, is_open, gated_writes}
 use Rattle.nvm_model.specs.Write.{Write, Torn}
 use Rattle.nvm_model.specs.declared.fault.NvmFault.{NvmFault}
 use Rattle.mark_cells.specs.declared.fault.CellFault.{CellFault}
@@ -43,7 +43,7 @@ cell_writes image at n = gated_writes (other_copy image at) (is_open image (othe
 
 -- a new cell: copy A is open with the number, copy B is zero
 unfoldable pub formatted : ℕ → List ℕ
-formatted n = 0xA5 ∷ octets_of n ++ replicate 7 0
+formatted n = open_octet ∷ octets_of n ++ replicate 7 0
 
 unfoldable pub format_writes : ℕ → ℕ → List Write
 format_writes at n = record { at = at; bytes = formatted n } ∷ []

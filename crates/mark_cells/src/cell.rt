@@ -106,9 +106,7 @@ fn other_copy(octets: &[u8; 14]) -> usize
     ensures copies { (result ≡ 0) ⊎ (result ≡ 7) }
 {
     match (copy_number(octets, 0), copy_number(octets, SECOND)) {
-        (Some(first), Some(second)) => {
-            if first < second { 0 } else { SECOND }
-        }
+        (Some(first), Some(second)) => { if first < second { 0 } else { SECOND } }
         (Some(_), None) => SECOND,
         (None, _) => 0,
     }

@@ -48,7 +48,11 @@ fn a_raise_that_is_cut_leaves_the_old_number_or_the_new(rt: HostRuntime) -> Resu
             memory.arm_cut(write, torn);
             assert!(rt; !raise(&mut memory, new)?);
             memory.power_on();
-            assert_eq!(rt; read_cell(&mut memory, 0), Ok(number(want)?), "{new} at {write}, torn {torn}");
+            assert_eq!(rt;
+                read_cell(&mut memory, 0),
+                Ok(number(want)?),
+                "{new} at {write}, torn {torn}"
+            );
         }
     }
     Ok(())
@@ -67,7 +71,10 @@ fn fourteen_zero_octets_are_unformatted(rt: HostRuntime) -> Result<(), Fail> {
 fn a_call_that_fails_is_told(rt: HostRuntime) -> Result<(), Fail> {
     let mut memory = FailingNvm::new(rt.alloc(), SIZE, 2, 0xff)?;
     assert_eq!(rt; format_cell(&mut memory, 0, number(5)?), Ok(()));
-    assert_eq!(rt; read_cell(&mut memory, 0), Err(CellFault::Memory(NvmFault::Failed)));
+    assert_eq!(rt;
+        read_cell(&mut memory, 0),
+        Err(CellFault::Memory(NvmFault::Failed))
+    );
     assert!(rt; raise(&mut memory, 9)?);
     assert_eq!(rt; read_cell(&mut memory, 0), Ok(number(9)?));
     Ok(())

@@ -1,11 +1,13 @@
 -- Every image of a write behind a gate.
-use Rattle.std.proofs.Common.{◌≡◌, ◌⊎◌, ℕ, ◌+◌, ◌<◌, ◌≤◌, Bool, true, false, List, [], ◌∷◌, length, slice_index, refl, sym, ap, subst, ◌∙◌, inl, inr, arith, add-zero}
-use Rattle.nvm_model.specs.Write.{Write, put, written, Torn, TornBy, Reached}
-use Rattle.nvm_model.specs.Gate.{is_open, shut_write, body_write, open_write, opening_writes, gated_writes, HasBody, IsOpenOver, IsAsBefore, IsGatedMoment}
+use Rattle.std.proofs.Common.{◌≡◌, ◌⊎◌, ℕ, ◌+◌, ◌<◌, ◌≤◌, Bool, true, false, List, [], ◌∷◌, length, slice_index, sym, ap, subst, ◌∙◌, inl, inr, arith, add-zero}
+use Rattle.nvm_model.specs.Write.{FitsIn, put, written, Torn, TornBy, Reached}
+use Rattle.nvm_model.specs.Gate.{is_open, shut_write, body_write, open_write, opening_writes, gated_writes, HasBody, IsOpenOver, IsGatedMoment}
+use Rattle.std.specs.List.{All}
+use Rattle.std.proofs.lemmas.List.Elements.{All-cons}
 use Rattle.std.specs.Prelude.{◌==◌, Result, Ok, Err, OnOk, Option}
 use Rattle.nvm_model.specs.Nvm.{State, LeavesOnly, Makes, fault_of}
 use Rattle.nvm_model.specs.declared.fault.NvmFault.{NvmFault}
-use Rattle.nvm_model.proofs.Lists.{length-put, put_before, put_after, put_inside, torn_put, torn_twice, torn_within}
+use Rattle.nvm_model.proofs.Lists.{put_inside, torn_put, torn_twice, torn_within}
 
 -- a gate is open where one with the same octet is
 pub same_gate : (a b : List ℕ) (gate : ℕ) → slice_index b gate ≡ slice_index a gate → is_open b gate ≡ is_open a gate
@@ -33,7 +35,7 @@ module _ (gate : ℕ) (body : List ℕ) where
   opening_moment b c shut inside (inr (inr is)) =
       let first : Torn (gate + 1) (length body) b (put (body_write gate body) b) = torn_put (body_write gate body) b inside in
       let then : Torn gate 1 (put (body_write gate body) b) (put (open_write gate) (put (body_write gate body) b)) =
-          torn_put (open_write gate) (put (body_write gate body) b) (omega (arith, first.size)) in
+      torn_put (open_write gate) (put (body_write gate body) b) (omega (arith, first.size)) in
       rw is (torn_twice first then (omega arith) (omega arith) (omega arith) (omega arith), inr (torn_gate _ _ then (whole_body b inside)))
 
   opening_whole : (b : List ℕ) → gate + 1 + length body ≤ length b → IsOpenOver gate body (written (opening_writes gate body) b)
@@ -75,14 +77,33 @@ gated_whole gate true body a inside =
     let shut : Torn gate 1 a (put (shut_write gate) a) = torn_put (shut_write gate) a (omega arith) in
     opening_whole gate body (put (shut_write gate) a) (omega (arith, shut.size))
 
+-- Each of its writes is inside the memory, and none is empty.
+opening_fit : (gate size : ℕ) (body : List ℕ) → gate + 1 + length body ≤ size → 0 < length body → All (FitsIn size) (opening_writes gate body)
+opening_fit gate size body inside some =
+    All-cons (FitsIn size) (body_write gate body) (open_write gate ∷ []) (record { inside = inside; not_empty = some })
+    (All-cons (FitsIn size) (open_write gate) [] (record { inside = omega arith; not_empty = omega arith }) (λ k d h. absurd (omega (arith, h))))
+
+pub gated_fit : (gate size : ℕ) (was_open : Bool) (body : List ℕ) → gate + 1 + length body ≤ size → 0 < length body
+    → All (FitsIn size) (gated_writes gate was_open body)
+gated_fit gate size true body inside some =
+    All-cons (FitsIn size) (shut_write gate) (opening_writes gate body) (record { inside = omega arith; not_empty = omega arith })
+    (opening_fit gate size body inside some)
+gated_fit gate size false body inside some = opening_fit gate size body inside some
+
+-- They are two or three.
+pub gated_few : (gate : ℕ) (was_open : Bool) (body : List ℕ) → length (gated_writes gate was_open body) ≤ 3
+gated_few gate true body = omega arith
+gated_few gate false body = omega arith
+
 -- Any call that makes the writes of a body behind a gate leaves only such images,
 pub makes_gated : {answer : Option NvmFault} {a b : State} {p q : ℕ → List ℕ → Type 0} (gate : ℕ) (was_open : Bool) (body : List ℕ)
     → was_open ≡ is_open a.octets gate → gate + 1 + length body ≤ length a.octets
     → Makes (gated_writes gate was_open body) answer a b p q → LeavesOnly a.clock p q (IsGatedMoment gate body a.octets)
 makes_gated {a = a} gate was_open body was inside made =
     λ t image early since. elim (made.images t image early since) [
-        inl past ↦ inl past
-      | inr reached ↦ inr (gated_moment gate was_open body a.octets image was inside reached) ]
+      | inl past ↦ inl past
+      | inr reached ↦ inr (gated_moment gate was_open body a.octets image was inside reached)
+    ]
 
 -- and leaves the gate open over the body where it is answered Ok.
 pub opens_gated : {T : Type 0} {a b : State} {p q : ℕ → List ℕ → Type 0} (result : Result T NvmFault) (gate : ℕ) (was_open : Bool) (body : List ℕ)

@@ -1,5 +1,5 @@
 -- Writes over a list of octets, and lists of writes one after another.
-use Rattle.std.proofs.Common.{◌≡◌, ◌⊎◌, ℕ, ◌+◌, ◌<◌, ◌≤◌, List, [], ◌∷◌, ◌++◌, length, take, drop, Option, None, Some, slice_index, refl, sym, ap, ◌∙◌, inl, inr, arith}
+use Rattle.std.proofs.Common.{◌≡◌, ℕ, ◌+◌, ◌<◌, ◌≤◌, List, [], ◌∷◌, ◌++◌, length, Option, None, Some, slice_index, refl, ap, ◌∙◌, inl, inr, arith}
 use Rattle.std.proofs.lemmas.Grind.{common_steps}
 use Rattle.nvm_model.specs.Write.{Write, put, written, Torn, TornBy, Reached, PartWritten}
 use Rattle.nvm_model.specs.Plan.{Struck, and_then, strike_one, strike, unarmed}

@@ -1,11 +1,10 @@
 -- Calls one after another: reads and writes of one memory.
-use Rattle.std.proofs.Common.{◌≡◌, ◌⊎◌, ℕ, ◌+◌, ◌≤◌, Bool, true, false, List, [], ◌∷◌, ◌++◌, length, Option, None, Some, refl, sym, ap, subst, ◌∙◌, inl, inr, arith, length-append}
-use Rattle.nvm_model.specs.Write.{Write, put, written, Torn, Reached, PartWritten}
+use Rattle.std.proofs.Common.{◌≡◌, ℕ, true, List, ◌∷◌, ◌++◌, length, Option, None, Some, refl, sym, ap, subst, ◌∙◌, inl, inr, arith, length-append}
+use Rattle.nvm_model.specs.Write.{Write, written, Torn, Reached, PartWritten}
 use Rattle.std.specs.Prelude.{Result, Ok, Err, IsOk}
-use Rattle.nvm_model.specs.Plan.{Struck, and_then, strike, unarmed}
-use Rattle.nvm_model.specs.Nvm.{State, HasNvmCause, Leaves, LeavesOnly, Reads, Makes, IsStruck, fault_of}
+use Rattle.nvm_model.specs.Plan.{Struck, strike, unarmed}
+use Rattle.nvm_model.specs.Nvm.{State, HasNvmCause, Leaves, Reads, Makes, IsStruck, fault_of}
 use Rattle.nvm_model.specs.declared.fault.NvmFault.{NvmFault}
-use Rattle.nvm_model.specs.declared.fault.NvmFault.TheVariants.{Failed, Cut}
 use Rattle.nvm_model.specs.declared.plan.Plan.{Plan}
 use Rattle.nvm_model.proofs.Lists.{written-append, reached_front, reached_back, part_front, part_back, strike-append, and_then_whole, and_then_stopped, torn_same, strike_unarmed}
 
@@ -30,7 +29,7 @@ struck_goes_on : {answer : Option NvmFault} {c : State} (xs ys : List Write) (pl
 struck_goes_on xs ys plan a b first then =
     let s : Struck = strike xs plan a.octets in
     let same : strike (xs ++ ys) plan a.octets ≡ strike ys s.plan b.octets =
-        strike-append xs ys plan a.octets ∙ and_then_whole s.answer s.octets s.plan (strike ys) first.answered ∙ ap (strike ys s.plan) (sym first.octets) in
+    strike-append xs ys plan a.octets ∙ and_then_whole s.answer s.octets s.plan (strike ys) first.answered ∙ ap (strike ys s.plan) (sym first.octets) in
     record {
       answered = then.answered ∙ ap (λ (s : Struck). s.answer) (sym same);
       octets = then.octets ∙ ap (λ (s : Struck). s.octets) (sym same);
@@ -42,7 +41,7 @@ struck_stops : {b : State} (xs ys : List Write) (plan : Plan) (a : State) (fault
 struck_stops xs ys plan a fault first =
     let s : Struck = strike xs plan a.octets in
     let same : strike (xs ++ ys) plan a.octets ≡ s =
-        strike-append xs ys plan a.octets ∙ and_then_stopped s.answer s.octets s.plan (strike ys) fault first.answered in
+    strike-append xs ys plan a.octets ∙ and_then_stopped s.answer s.octets s.plan (strike ys) fault first.answered in
     record {
       answered = first.answered ∙ ap (λ (s : Struck). s.answer) (sym same);
       octets = first.octets ∙ ap (λ (s : Struck). s.octets) (sym same);
@@ -58,10 +57,12 @@ makes_goes_on {xs = xs} {ys = ys} {answer = answer} {a = a} {b = b} {c = c} firs
   few = omega (arith, first.few, then.few, length-append xs ys);
   size = then.size ∙ first.size;
   images = λ t image early since. elim (then.images t image (omega (arith, first.later)) since) [
-      inl past ↦ elim (first.images t image early past) [
-          inl past ↦ inl past
-        | inr reached ↦ inr (reached_front xs ys a.octets image reached) ]
-    | inr reached ↦ inr (reached_back xs ys a.octets image (subst (λ o. Reached ys o image) first.octets reached)) ];
+    | inl past ↦ elim (first.images t image early past) [
+      | inl past ↦ inl past
+      | inr reached ↦ inr (reached_front xs ys a.octets image reached)
+    ]
+    | inr reached ↦ inr (reached_back xs ys a.octets image (subst (λ o. Reached ys o image) first.octets reached))
+  ];
   octets = leaves_goes_on xs ys answer a.octets b.octets c.octets first.octets then.octets;
   off = λ off. absurd (cc (first.cause.off off));
   off_plan = λ off. absurd (cc (first.cause.off off));
@@ -78,8 +79,9 @@ makes_stops {xs = xs} ys {fault = fault} {a = a} {b = b} first = record {
   few = omega (arith, first.few, length-append xs ys);
   size = first.size;
   images = λ t image early since. elim (first.images t image early since) [
-      inl past ↦ inl past
-    | inr reached ↦ inr (reached_front xs ys a.octets image reached) ];
+    | inl past ↦ inl past
+    | inr reached ↦ inr (reached_front xs ys a.octets image reached)
+  ];
   octets = part_front xs ys a.octets b.octets first.octets;
   off = first.off;
   off_plan = first.off_plan;
@@ -110,8 +112,9 @@ makes_after_read {writes = writes} {answer = answer} {a = a} {b = b} {c = c} fir
   few = omega (arith, first.clock, then.few);
   size = then.size ∙ ap length first.octets;
   images = λ t image early since. elim (then.images t image (omega (arith, first.clock)) since) [
-      inl past ↦ inl ((first.images t image early).0 past)
-    | inr reached ↦ inr (subst (λ o. Reached writes o image) first.octets reached) ];
+    | inl past ↦ inl ((first.images t image early).0 past)
+    | inr reached ↦ inr (subst (λ o. Reached writes o image) first.octets reached)
+  ];
   octets = subst (λ o. Leaves writes answer o c.octets) first.octets then.octets;
   off = λ off. absurd (cc (first.cause.off off));
   off_plan = λ off. absurd (cc (first.cause.off off));

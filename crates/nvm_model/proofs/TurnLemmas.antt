@@ -1,5 +1,5 @@
 -- The writes of a slice of pieces, in turn.
-use Rattle.std.proofs.Common.{◌≡◌, ℕ, ◌+◌, ◌<◌, List, [], ◌∷◌, ◌++◌, length, get_or, take, drop, map, Option, None, Some, refl, sym, ap, subst, ◌∙◌}
+use Rattle.std.proofs.Common.{◌≡◌, ℕ, ◌+◌, ◌<◌, List, [], ◌∷◌, ◌++◌, length, get_or, take, drop, map, None, Some, sym, ap, subst, ◌∙◌}
 use Rattle.std.proofs.lemmas.List.{map_more, map-append, take-append-drop}
 use Rattle.nvm_model.specs.Write.{Write}
 use Rattle.nvm_model.specs.Plan.{and_then, strike}
@@ -24,8 +24,8 @@ pub makes_no_more : {a b c : State} {p q r : ℕ → List ℕ → Type 0} {fault
     → Makes (first ∷ map write_of rest) (Some fault) a c p r
 makes_no_more {a = a} {c = c} {p = p} {r = r} {fault = fault} first rest i d inside before this =
     let all : (map write_of (take i rest) ++ write_of (get_or rest i d) ∷ []) ++ map write_of (drop (i + 1) rest) ≡ map write_of rest =
-        ap (λ (writes : List Write). writes ++ map write_of (drop (i + 1) rest)) (sym (map_more write_of rest i d inside))
-        ∙ sym (map-append write_of (take (i + 1) rest) (drop (i + 1) rest)) ∙ ap (map write_of) (take-append-drop (i + 1) rest) in
+    ap (λ (writes : List Write). writes ++ map write_of (drop (i + 1) rest)) (sym (map_more write_of rest i d inside))
+    ∙ sym (map-append write_of (take (i + 1) rest) (drop (i + 1) rest)) ∙ ap (map write_of) (take-append-drop (i + 1) rest) in
     subst (λ (writes : List Write). Makes (first ∷ writes) (Some fault) a c p r) all (makes_stops (map write_of (drop (i + 1) rest)) (makes_goes_on before this))
 
 -- the strike of writes that are divided

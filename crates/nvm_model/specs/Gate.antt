@@ -2,9 +2,12 @@
 use Rattle.std.specs.Prelude.{◌≡◌, ◌⊎◌, ℕ, ◌+◌, ◌<◌, ◌==◌, Bool, true, false, List, [], ◌∷◌, length, slice_index}
 use Rattle.nvm_model.specs.Write.{Write, Torn}
 
--- Open is 0xA5 alone.
+-- the octet of an open gate; a gate with any other is not open
+abbrev pub open_octet : ℕ
+open_octet = 0xA5
+
 abbrev pub is_open : List ℕ → ℕ → Bool
-is_open image gate = slice_index image gate == 0xA5
+is_open image gate = slice_index image gate == open_octet
 
 abbrev pub shut_write : ℕ → Write
 shut_write gate = record { at = gate; bytes = 0 ∷ [] }
@@ -13,7 +16,7 @@ abbrev pub body_write : ℕ → List ℕ → Write
 body_write gate body = record { at = gate + 1; bytes = body }
 
 abbrev pub open_write : ℕ → Write
-open_write gate = record { at = gate; bytes = 0xA5 ∷ [] }
+open_write gate = record { at = gate; bytes = open_octet ∷ [] }
 
 -- behind a gate that is shut
 abbrev pub opening_writes : ℕ → List ℕ → List Write

@@ -3,7 +3,6 @@ use Rattle.knx_base.specs.Faults.{counted}
 use Rattle.nvm_model.specs.Nvm.{State}
 use Rattle.nvm_model.specs.declared.fault.NvmFault.{NvmFault}
 use Rattle.nvm_model.specs.declared.fault.NvmFault.TheVariants.{Failed, Cut}
-use Rattle.nvm_model.specs.declared.plan.Armed.{Armed}
 use Rattle.nvm_model.specs.declared.plan.Plan.{Plan}
 use Rattle.nvm_model.specs.declared.sim.SimNvm.{SimNvm}
 

@@ -11,7 +11,12 @@ const SHUT: u8 = 0x00;
 
 /// Writes a body behind a gate so that what the gate is open over is at each moment the old octets or the whole body:
 /// shuts the gate if it is open, writes the body, opens the gate.
-pub fn write_gated<M: Nvm>(memory: &mut M, gate: usize, was_open: bool, body: &[u8]) -> Result<(), NvmFault>
+pub fn write_gated<M: Nvm>(
+    memory: &mut M,
+    gate: usize,
+    was_open: bool,
+    body: &[u8],
+) -> Result<(), NvmFault>
     requires inside { gate + 1 + length body.now ≤ length (M.state memory.old).octets }
     requires not_empty { 0 < length body.now }
     requires tells_the_gate { was_open ≡ is_open (M.state memory.old).octets gate }

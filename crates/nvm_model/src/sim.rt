@@ -23,12 +23,12 @@ impl SimNvm {
     /// A memory of this many octets, all zero, with power on and nothing armed.
     pub fn new(alloc: Global, size: usize) -> Result<SimNvm, NoMemory>
         ensures zero { IfOk result (λ m. sim_state m ≡ record {
-            octets = replicate size 0;
-            powered = true;
-            clock = 0;
-            faults = 0;
-            cuts = 0;
-            plan = Some unarmed;
+          octets = replicate size 0;
+          powered = true;
+          clock = 0;
+          faults = 0;
+          cuts = 0;
+          plan = Some unarmed;
         }) }
     {
         Ok(SimNvm {
@@ -49,7 +49,7 @@ impl SimNvm {
     pub fn arm_cut(&mut self, write: u32, torn: u8)
         requires counts_from_one { 1 ≤ write }
         ensures armed { sim_state self.new ≡ record (sim_state self.old) {
-            plan = option_map (with_cut write torn) (sim_state self.old).plan;
+          plan = option_map (with_cut write torn) (sim_state self.old).plan;
         } }
     {
         self.plan.cut = Some(Armed {
@@ -63,7 +63,7 @@ impl SimNvm {
     pub fn arm_fail(&mut self, write: u32, torn: u8)
         requires counts_from_one { 1 ≤ write }
         ensures armed { sim_state self.new ≡ record (sim_state self.old) {
-            plan = option_map (with_fault write torn) (sim_state self.old).plan;
+          plan = option_map (with_fault write torn) (sim_state self.old).plan;
         } }
     {
         self.plan.fault = Some(Armed {
@@ -92,7 +92,6 @@ impl SimNvm {
     {
         &self.octets
     }
-
 }
 
 // The octet that the next write leaves, where this strikes it.

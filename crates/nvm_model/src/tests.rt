@@ -23,15 +23,12 @@ fn an_armed_cut_strikes_one_write_and_takes_power(rt: HostRuntime) -> Result<(),
 fn an_armed_fault_leaves_power_on(rt: HostRuntime) -> Result<(), Fail> {
     let mut memory = SimNvm::new(rt.alloc(), 2)?;
     memory.arm_fail(1, 0x07);
-    let pieces = [Piece {
-        at: 1,
-        bytes: &[2],
-    }];
-    let first = Piece {
-        at: 0,
-        bytes: &[1],
-    };
-    assert_eq!(rt; write_in_turn(&mut memory, first, &pieces), Err(NvmFault::Failed));
+    let pieces = [Piece { at: 1, bytes: &[2] }];
+    let first = Piece { at: 0, bytes: &[1] };
+    assert_eq!(rt;
+        write_in_turn(&mut memory, first, &pieces),
+        Err(NvmFault::Failed)
+    );
     assert_eq!(rt; memory.image(), [7, 0].as_slice());
     assert_eq!(rt; write_in_turn(&mut memory, first, &pieces), Ok(()));
     assert_eq!(rt; memory.image(), [1, 2].as_slice());
@@ -42,7 +39,10 @@ fn an_armed_fault_leaves_power_on(rt: HostRuntime) -> Result<(), Fail> {
 fn a_torn_gate_is_open_over_the_whole_body_or_none(rt: HostRuntime) -> Result<(), Fail> {
     for (call, want) in [(1, [0, 0xa5, 0xa5]), (2, [0xa5, 7, 8]), (3, [0xa5, 7, 8])] {
         let mut memory = FailingNvm::new(rt.alloc(), 3, call, 0xa5)?;
-        assert_eq!(rt; write_gated(&mut memory, 0, false, &[7, 8]).is_ok(), call == 3);
+        assert_eq!(rt;
+            write_gated(&mut memory, 0, false, &[7, 8]).is_ok(),
+            call == 3
+        );
         assert_eq!(rt; memory.image(), want.as_slice(), "at {call}");
     }
     Ok(())

@@ -29,12 +29,12 @@ impl FailingNvm {
     /// whole range. At 0 none fails.
     pub fn new(alloc: Global, size: usize, call: u64, torn: u8) -> Result<FailingNvm, NoMemory>
         ensures state { IfOk result (λ m. failing_state m ≡ record {
-            octets = replicate size 0;
-            powered = true;
-            clock = 0;
-            faults = 0;
-            cuts = 0;
-            plan = None;
+          octets = replicate size 0;
+          powered = true;
+          clock = 0;
+          faults = 0;
+          cuts = 0;
+          plan = None;
         }) }
         ensures call { IfOk result (λ m. failing_call m ≡ call) }
         ensures torn { IfOk result (λ m. failing_torn m ≡ torn) }

@@ -15,7 +15,11 @@ pub struct Piece<'a> {
 }
 
 /// Makes writes in turn, up to the first that is not answered Ok.
-pub fn write_in_turn<M: Nvm>(memory: &mut M, first: Piece<'_>, rest: &[Piece<'_>]) -> Result<(), NvmFault>
+pub fn write_in_turn<M: Nvm>(
+    memory: &mut M,
+    first: Piece<'_>,
+    rest: &[Piece<'_>],
+) -> Result<(), NvmFault>
     requires first_fits { FitsIn (length (M.state memory.old).octets) (write_of first) }
     requires rest_fit { All (λ piece. FitsIn (length (M.state memory.old).octets) (write_of piece)) rest.now }
 
