@@ -11,10 +11,12 @@ use nvm_model::{Nvm, NvmFault, OPEN, write_gated};
 /// The number of octets of a cell.
 pub const CELL_SIZE: usize = 14;
 
-// Copy A stands at the place of the cell, copy B here.
+// Copy A stands at the place of the cell, copy B so many octets on.
 const SECOND: usize = 7;
 
-/// Writes a new cell with this number.
+/// Writes a new cell with this number, in one write: copy A is open, copy B all zero.
+///
+/// Failed comes only where the memory counted a fault in this call, Cut only where it counted a cut or had no power.
 pub fn format_cell<M: Nvm>(memory: &mut M, at: usize, value: Number48) -> Result<(), NvmFault>
     requires inside { at + 14 ≤ length (M.state memory.old).octets }
 
@@ -35,7 +37,7 @@ pub fn format_cell<M: Nvm>(memory: &mut M, at: usize, value: Number48) -> Result
     memory.write(at, &cell)
 }
 
-/// The reading of a cell: the greatest number of an open copy.
+/// The reading of a cell: the greatest number of an open copy. It is Unformatted where none is open.
 pub fn read_cell<M: Nvm>(memory: &mut M, at: usize) -> Result<Number48, CellFault>
     requires inside { at + 14 ≤ length (M.state memory.old).octets }
 
@@ -55,7 +57,8 @@ pub fn read_cell<M: Nvm>(memory: &mut M, at: usize) -> Result<Number48, CellFaul
 
 /// Raises the number of a cell in two or three writes, none of which touches the copy that is current.
 ///
-/// A cut at any moment leaves the old or the new number.
+/// A cut at any moment leaves the old or the new number. Failed comes only where the memory counted a fault in this call, Cut
+/// only where it counted a cut or had no power.
 pub fn raise_cell<M: Nvm>(memory: &mut M, at: usize, new: Number48) -> Result<(), NvmFault>
     requires inside { at + 14 ≤ length (M.state memory.old).octets }
     requires below { ReadsBelow (M.state memory.old).octets at new }
@@ -73,8 +76,8 @@ pub fn raise_cell<M: Nvm>(memory: &mut M, at: usize, new: Number48) -> Result<()
     write_gated(memory, at + other, cell[other] == OPEN, &new.to_bytes())
 }
 
-#[tactic(auto, unfolding(crate::specs::Cell::reading))]
 /// The reading of a cell with these octets, or None where no copy is open.
+#[tactic(auto, unfolding(crate::specs::Cell::reading))]
 pub fn cell_reading(octets: &[u8; 14]) -> Option<Number48>
     ensures value { result ≡ reading octets.now 0 }
     ensures unformatted { IsNone result ↔ IsUnformatted octets.now 0 }
@@ -99,8 +102,8 @@ fn copy_number(octets: &[u8; 14], gate: usize) -> Option<Number48>
     Some(Number48::from_bytes(number))
 }
 
-#[tactic(auto, unfolding(crate::specs::Cell::other_copy))]
 // The place of the copy that is not current.
+#[tactic(auto, unfolding(crate::specs::Cell::other_copy))]
 fn other_copy(octets: &[u8; 14]) -> usize
     ensures place { result ≡ other_copy octets.now 0 }
     ensures copies { (result ≡ 0) ⊎ (result ≡ 7) }

@@ -141,11 +141,12 @@ impl Nvm for SimNvm {
         ensures reads { Reads (fault_of result) (sim_state self.old) (sim_state self.new) (sim_images self.old) (sim_images self.new) }
         ensures same { sim_state self.new ≡ sim_state self.old }
     {
-        if !self.powered {
-            return Err(NvmFault::Cut);
+        if self.powered {
+            out.copy_from_slice(&self.octets[at..at + out.len()]);
+            Ok(())
+        } else {
+            Err(NvmFault::Cut)
         }
-        out.copy_from_slice(&self.octets[at..at + out.len()]);
-        Ok(())
     }
 
     fn write(&mut self, at: usize, bytes: &[u8]) -> Result<(), NvmFault>

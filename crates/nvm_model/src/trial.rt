@@ -1,11 +1,11 @@
 //! A second memory, for trying code that is generic in [`Nvm`] with one that tells less than `SimNvm` does.
-ghost use Rattle.std.specs.Prelude.{◌≡◌, ◌⊎◌, ◌+◌, ◌-◌, ◌<◌, ◌≤◌, ◌↔◌, [], ◌∷◌, true, None, IfOk, OnOk, OnErr, IsErr, IsTrue, length, replicate, slice_range, refl};
+ghost use Rattle.std.specs.Prelude.{◌≡◌, ◌⊎◌, ℕ, List, ◌+◌, ◌-◌, ◌<◌, ◌≤◌, ◌↔◌, [], ◌∷◌, true, None, IfOk, OnOk, OnErr, IsErr, IsTrue, length, replicate, slice_range, refl};
 ghost use Rattle.std.proofs.Common.{arith, inl};
 ghost use Rattle.nvm_model.specs.FailingNvm.{failing_state, failing_call, failing_torn, failing_images, CountsCall};
 ghost use Rattle.nvm_model.specs.LastWrite.{only_last, size_last};
 ghost use Rattle.nvm_model.specs.Nvm.{Makes, Reads, fault_of};
 ghost use Rattle.nvm_model.specs.Plan.{torn_to};
-ghost use Rattle.nvm_model.specs.Write.{put};
+ghost use Rattle.nvm_model.specs.Write.{put, Torn};
 
 use crate::{Nvm, NvmFault};
 use knx_base::NoMemory;
@@ -107,6 +107,10 @@ impl Nvm for FailingNvm {
         requires not_empty { 0 < length bytes.now }
         ensures makes { Makes (record { at = at; bytes = bytes.now } ∷ []) (fault_of result)
             (failing_state self.old) (failing_state self.new) (failing_images self.old) (failing_images self.new) }
+        // A cut inside this write may have left any octets in its range, whatever the answer.
+        ensures many { (failing_state self.old).clock < (failing_state self.new).clock
+            → (image : List ℕ) → Torn at (length bytes.now) (failing_state self.old).octets image
+            → failing_images self.new (failing_state self.old).clock image }
         ensures fails { IsErr result ↔ (failing_call self.old ≡ 1) }
         ensures torn { OnErr result ((failing_state self.new).octets
             ≡ put (torn_to (failing_torn self.old) (record { at = at; bytes = bytes.now })) (failing_state self.old).octets) }
