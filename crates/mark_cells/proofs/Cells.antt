@@ -9,9 +9,9 @@ use Rattle.nvm_model.specs.Nvm.{State, LeavesOnly, Reads, Makes, fault_of}
 use Rattle.nvm_model.specs.Write.{Write, FitsIn, put, Torn, Reached, written}
 use Rattle.nvm_model.specs.declared.fault.NvmFault.{NvmFault}
 use Rattle.nvm_model.proofs.GateLemmas.{gated_moment, gated_whole, gated_fit, gated_few}
-use Rattle.nvm_model.proofs.Lists.{torn_within, reached_whole, put_inside}
-use Rattle.nvm_model.proofs.Runs.{makes_after_read, makes_not_read}
-use Rattle.mark_cells.specs.Cell.{copy_number, greatest, reading, other_copy, cell_writes, formatted, format_writes, ReadsBelow, IsOldOrNew}
+use Rattle.nvm_model.proofs.Lists.{torn_within, torn_put, reached_whole, put_inside}
+use Rattle.nvm_model.proofs.Runs.{makes_after_read, makes_not_read, makes_reached}
+use Rattle.mark_cells.specs.Cell.{copy_number, greatest, reading, other_copy, cell_writes, formatted, format_writes, ReadsBelow, IsOldOrNew, OthersReadAsBefore}
 use Rattle.mark_cells.proofs.Copies.{greatest-comm, beside, copy_open, copy_shut, copy_same, copied_from, reading_same, other_same, open_same}
 
 -- A cell whose octets are as they were reads as it did.
@@ -34,6 +34,13 @@ below_of n back = omega arith
 
 pub fits_octets : (n : ℕ) (octets : List ℕ) → octets ≡ octets_of n → number_at octets 0 ≡ n → n < 2 ^ 48
 fits_octets n octets is back = below_of n (ap (λ o. number_at o 0) (sym is) ∙ back)
+
+-- What is torn inside a cell leaves all others alone.
+pub others_read : {a b : List ℕ} (at : ℕ) → Torn at 14 a b → OthersReadAsBefore a at b
+others_read at torn other apart = elim apart [
+  | inl before ↦ reading_outside other torn (inr before)
+  | inr behind ↦ reading_outside other torn (inl behind)
+]
 
 -- the number behind a gate
 number_behind : (n gate : ℕ) (c : List ℕ) → n < 2 ^ 48 → HasBody gate (octets_of n) c → number_at c (gate + 1) ≡ n
@@ -190,6 +197,12 @@ makes_moments {a = a} at n inside below fits made =
       | inr reached ↦ inr (raise_moment a.octets at n inside below fits image reached)
     ]
 
+-- leaves one of them, whatever it is answered,
+pub makes_now : {answer : Option NvmFault} {a b : State} {p q : ℕ → List ℕ → Type 0} (at n : ℕ)
+    → at + 14 ≤ length a.octets → ReadsBelow a.octets at n → n < 2 ^ 48
+    → Makes (cell_writes a.octets at n) answer a b p q → IsOldOrNew a.octets at n b.octets
+makes_now {a = a} {b = b} at n inside below fits made = raise_moment a.octets at n inside below fits b.octets (makes_reached made)
+
 -- and leaves the new number where it is answered Ok.
 pub makes_raised : {T : Type 0} {a b : State} {p q : ℕ → List ℕ → Type 0} (result : Result T NvmFault) (at n : ℕ)
     → at + 14 ≤ length a.octets → ReadsBelow a.octets at n → n < 2 ^ 48
@@ -255,3 +268,13 @@ pub format_reads : {T : Type 0} {a b : State} {p q : ℕ → List ℕ → Type 0
 unfolding format_writes
 format_reads {a = a} (Ok _) at n inside fits made = ap (λ o. reading o at) made.octets ∙ reading_put a.octets at n inside fits
 format_reads (Err _) at n inside fits made = tt
+
+-- A write of a formatted cell stays inside the cell.
+pub format_within : {answer : Option NvmFault} {a b : State} {p q : ℕ → List ℕ → Type 0} (at n : ℕ) → at + 14 ≤ length a.octets
+    → Makes (format_writes at n) answer a b p q → Torn at 14 a.octets b.octets
+unfolding format_writes
+format_within {a = a} {b = b} at n inside made = elim (makes_reached made) [
+  | inl torn ↦ torn_within torn (omega arith) (omega (arith, length-formatted n))
+  | inr whole ↦ subst (Torn at 14 a.octets) (sym whole)
+      (torn_within (torn_put (record { at = at; bytes = formatted n }) a.octets (omega (arith, length-formatted n))) (omega arith) (omega (arith, length-formatted n)))
+]

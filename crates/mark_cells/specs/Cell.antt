@@ -1,6 +1,6 @@
 -- A cell keeps one number in 14 octets, as two copies in turn: copy A at the place of the cell, copy B seven octets on.
 -- A copy is a gate and the six octets of a number behind it, and counts while its gate is open.
-use Rattle.std.specs.Prelude.{◌≡◌, ◌⊎◌, ℕ, ◌+◌, ◌<◌, max, false, List, [], ◌∷◌, ◌++◌, replicate, Option, Some, None, Result, Ok, Err, nat_le, if◌then◌else◌}
+use Rattle.std.specs.Prelude.{◌≡◌, ◌⊎◌, ℕ, ◌+◌, ◌<◌, ◌≤◌, max, false, List, [], ◌∷◌, ◌++◌, replicate, Option, Some, None, Result, Ok, Err, nat_le, if◌then◌else◌}
 use Rattle.knx_base.specs.Number.{number_at, octets_of}
 use Rattle.nvm_model.specs.Gate.{open_octet, is_open, gated_writes}
 use Rattle.nvm_model.specs.Write.{Write, Torn}
@@ -27,8 +27,8 @@ pub record IsUnformatted (image : List ℕ) (at : ℕ) : Type 0 where
   pub first : is_open image at ≡ false
   pub second : is_open image (at + 7) ≡ false
 
--- the place of copy A or of copy B, of which the other is current: it is open and has the greatest number. Where both are
--- open with equal numbers A is current.
+-- The place of the copy that is not current. Current is the open copy with the greatest number, and copy A where both are open
+-- with equal numbers. Where no copy is open it is the place of A.
 abbrev pub place_beside : Option ℕ → Option ℕ → ℕ → ℕ
 place_beside None _ at = at
 place_beside (Some a) None at = at + 7
@@ -58,6 +58,10 @@ pub record ReadsBelow (image : List ℕ) (at n : ℕ) : Type 0 where
 pub record IsOldOrNew (old : List ℕ) (at n : ℕ) (image : List ℕ) : Type 0 where
   pub outside : Torn at 14 old image
   pub reads : (reading image at ≡ reading old at) ⊎ (reading image at ≡ Some n)
+
+-- every cell that does not overlap this one reads as before
+abbrev pub OthersReadAsBefore : List ℕ → ℕ → List ℕ → Type 0
+OthersReadAsBefore old at new = (other : ℕ) → (other + 14 ≤ at) ⊎ (at + 14 ≤ other) → reading new other ≡ reading old other
 
 -- the fault of the memory that an answer hands on
 abbrev pub memory_fault : {T : Type 0} → Result T CellFault → Option NvmFault

@@ -2,7 +2,7 @@ ghost use Rattle.std.specs.Prelude.{◌≡◌, ◌⊎◌, ◌+◌, ◌<◌, ◌�
 ghost use Rattle.nvm_model.specs.Nvm.{Reads, Makes, LeavesOnly, fault_of};
 ghost use Rattle.nvm_model.specs.Plan.{unarmed};
 ghost use Rattle.nvm_model.specs.Write.{Torn, put};
-ghost use Rattle.mark_cells.specs.Cell.{copy_number, reading, other_copy, cell_writes, formatted, format_writes, IsUnformatted, ReadsBelow, IsOldOrNew, memory_fault};
+ghost use Rattle.mark_cells.specs.Cell.{copy_number, reading, other_copy, cell_writes, formatted, format_writes, IsUnformatted, ReadsBelow, IsOldOrNew, OthersReadAsBefore, memory_fault};
 
 use crate::CellFault;
 use knx_base::Number48;
@@ -26,6 +26,7 @@ pub fn format_cell<M: Nvm>(memory: &mut M, at: usize, value: Number48) -> Result
     ensures reads { OnOk result (reading (M.state memory.new).octets at ≡ Some value) }
     ensures any_moment { LeavesOnly (M.state memory.old).clock (M.images memory.old) (M.images memory.new)
         (Torn at 14 (M.state memory.old).octets) }
+    ensures others { OthersReadAsBefore (M.state memory.old).octets at (M.state memory.new).octets }
 
     // Where nothing is armed, as far as the memory tells, nothing strikes.
     ensures unarmed { (M.state memory.old).plan ≡ Some unarmed → (M.state memory.old).powered ≡ true
@@ -67,6 +68,9 @@ pub fn raise_cell<M: Nvm>(memory: &mut M, at: usize, new: Number48) -> Result<()
         (M.state memory.old) (M.state memory.new) (M.images memory.old) (M.images memory.new) }
     ensures any_moment { LeavesOnly (M.state memory.old).clock (M.images memory.old) (M.images memory.new)
         (IsOldOrNew (M.state memory.old).octets at new) }
+    // What is there now is one of those images.
+    ensures now { IsOldOrNew (M.state memory.old).octets at new (M.state memory.new).octets }
+    ensures others { OthersReadAsBefore (M.state memory.old).octets at (M.state memory.new).octets }
     ensures raised { OnOk result (reading (M.state memory.new).octets at ≡ Some new) }
     ensures few { (M.state memory.new).clock ≤ (M.state memory.old).clock + 3 }
 {

@@ -6,7 +6,7 @@ use Rattle.nvm_model.specs.Plan.{Struck, strike, unarmed}
 use Rattle.nvm_model.specs.Nvm.{State, HasNvmCause, Leaves, Reads, Makes, IsStruck, fault_of}
 use Rattle.nvm_model.specs.declared.fault.NvmFault.{NvmFault}
 use Rattle.nvm_model.specs.declared.plan.Plan.{Plan}
-use Rattle.nvm_model.proofs.Lists.{written-append, reached_front, reached_back, part_front, part_back, strike-append, and_then_whole, and_then_stopped, torn_same, strike_unarmed}
+use Rattle.nvm_model.proofs.Lists.{written-append, reached_front, reached_back, reached_whole, reached_part, part_front, part_back, strike-append, and_then_whole, and_then_stopped, torn_same, strike_unarmed}
 
 -- after a call that was answered Ok
 cause_goes_on : {answer : Option NvmFault} {a b c : State} → HasNvmCause None a b → HasNvmCause answer b c → HasNvmCause answer a c
@@ -148,3 +148,12 @@ makes_unarmed {writes = writes} {a = a} result made is on =
     let struck = made.told unarmed is on in
     let same = strike_unarmed writes a.octets in
     (ok_of result (struck.answered ∙ ap (λ (s : Struck). s.answer) same), struck.plan ∙ ap (λ (s : Struck). Some s.plan) same)
+
+reached_leaves : (writes : List Write) (answer : Option NvmFault) (a b : List ℕ) → Leaves writes answer a b → Reached writes a b
+reached_leaves writes None a b whole = subst (Reached writes a) (sym whole) (reached_whole writes a)
+reached_leaves writes (Some _) a b part = reached_part writes a b part
+
+-- What is there after the writes, whatever they were answered, is one of their moments.
+pub makes_reached : {writes : List Write} {answer : Option NvmFault} {a b : State} {p q : ℕ → List ℕ → Type 0}
+    → Makes writes answer a b p q → Reached writes a.octets b.octets
+makes_reached {writes = writes} {answer = answer} {a = a} {b = b} made = reached_leaves writes answer a.octets b.octets made.octets

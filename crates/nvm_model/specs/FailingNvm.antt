@@ -1,6 +1,7 @@
-use Rattle.std.specs.Prelude.{◌≡◌, ◌⊎◌, ℕ, ◌-◌, ◌<◌, true, List, None}
+-- The memory that fails at a chosen call.
+use Rattle.std.specs.Prelude.{◌≡◌, ℕ, ◌-◌, true, List, None}
 use Rattle.nvm_model.specs.Nvm.{State}
-use Rattle.nvm_model.specs.Write.{Torn}
+use Rattle.nvm_model.specs.LastWrite.{IsSinceLast}
 use Rattle.nvm_model.specs.declared.trial.FailingNvm.{FailingNvm}
 
 -- what a failing memory shows: it tells no plan, and its power is always on
@@ -22,9 +23,9 @@ failing_call m = m.call
 abbrev pub failing_torn : FailingNvm → ℕ
 failing_torn m = m.torn
 
--- these octets, or since before the last write any in the range of that write
+-- A cut may fall inside its last write, whatever that was answered.
 abbrev pub failing_images : FailingNvm → ℕ → List ℕ → Type 0
-failing_images m t image = (image ≡ m.octets.items) ⊎ ((t < m.clock) × Torn m.last_at m.last_len m.octets.items image)
+failing_images m t image = IsSinceLast t m.clock m.last_at m.last_len m.octets.items image
 
 -- one call nearer to the one that fails
 pub record CountsCall (old new : FailingNvm) : Type 0 where

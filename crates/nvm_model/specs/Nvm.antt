@@ -28,20 +28,21 @@ is_on_after None = true
 is_on_after (Some Failed) = true
 is_on_after (Some Cut) = false
 
--- Each fault has its cause. With power off the answer is Cut.
+-- Each fault has its cause: Failed a count of faults that rose in this call, Cut a count of cuts that did, or power that was off.
 pub record HasNvmCause (answer : Option NvmFault) (old new : State) : Type 0 where
   pub faults : old.faults ≤ new.faults
   pub cuts : old.cuts ≤ new.cuts
   pub failed : answer ≡ Some Failed → Rose old.faults new.faults
   pub cut : answer ≡ Some Cut → Rose old.cuts new.cuts ⊎ (old.powered ≡ false)
+  -- without power every call answers Cut
   pub off : old.powered ≡ false → answer ≡ Some Cut
   pub power : new.powered ≡ is_on_after answer
 
--- Each image since a moment up to this clock value was one before, or has P.
+-- For each clock value up to this one, every image since it after a call is an image since it before the call, or has P.
 abbrev pub LeavesOnly : ℕ → (ℕ → List ℕ → Type 0) → (ℕ → List ℕ → Type 0) → (List ℕ → Type 0) → Type 0
 LeavesOnly clock past since P = (t : ℕ) (c : List ℕ) → t ≤ clock → since t c → past t c ⊎ P c
 
--- the images since each moment up to this clock value are the same
+-- For each clock value up to this one, the images since it are the same before and after a call.
 abbrev pub SameImages : ℕ → (ℕ → List ℕ → Type 0) → (ℕ → List ℕ → Type 0) → Type 0
 SameImages clock past since = (t : ℕ) (c : List ℕ) → t ≤ clock → (since t c → past t c) × (past t c → since t c)
 
@@ -54,7 +55,7 @@ pub record Reads (answer : Option NvmFault) (old new : State) (past since : ℕ 
   pub images : SameImages old.clock past since
   pub never_fails_where_told : IsSome old.plan → old.powered ≡ true → answer ≡ None
 
--- what an answer says of the octets
+-- after Ok the writes are made, after a fault some of them are, and the next one is torn
 abbrev pub Leaves : List Write → Option NvmFault → List ℕ → List ℕ → Type 0
 Leaves writes None old new = new ≡ written writes old
 Leaves writes (Some _) old new = PartWritten writes old new
@@ -65,9 +66,10 @@ pub record IsStruck (struck : Struck) (answer : Option NvmFault) (new : State) :
   pub octets : new.octets ≡ struck.octets
   pub plan : new.plan ≡ Some struck.plan
 
--- these writes in turn, up to the first that is not answered Ok
+-- These writes in turn, up to the first that is not answered Ok. A single write is the list of one.
 pub record Makes (writes : List Write) (answer : Option NvmFault) (old new : State) (past since : ℕ → List ℕ → Type 0) : Type 0 where
   pub cause : HasNvmCause answer old new
+  -- the clock counts at most the writes
   pub later : old.clock ≤ new.clock
   pub few : new.clock ≤ old.clock + length writes
   pub size : length new.octets ≡ length old.octets
@@ -75,4 +77,5 @@ pub record Makes (writes : List Write) (answer : Option NvmFault) (old new : Sta
   pub octets : Leaves writes answer old.octets new.octets
   pub off : old.powered ≡ false → new.octets ≡ old.octets
   pub off_plan : old.powered ≡ false → new.plan ≡ old.plan
+  -- where the plan is told, and power is on
   pub told : (plan : Plan) → old.plan ≡ Some plan → old.powered ≡ true → IsStruck (strike writes plan old.octets) answer new

@@ -1,3 +1,4 @@
+-- The simulated memory.
 use Rattle.std.specs.Prelude.{◌≡◌, ℕ, true, false, List, Option, Some, None}
 use Rattle.knx_base.specs.Faults.{counted}
 use Rattle.nvm_model.specs.Nvm.{State}

@@ -1,6 +1,6 @@
 use Rattle.std.proofs.Common.{◌∙◌}
 use Rattle.nvm_model.proofs.Runs.{makes_unarmed}
-use Rattle.mark_cells.proofs.Cells.{makes_format, format_leaves, format_reads, fits_octets}
+use Rattle.mark_cells.proofs.Cells.{makes_format, format_leaves, format_reads, format_within, others_read, fits_octets}
 use Rattle.mark_cells.proofs.cell.format_cell.Goals as goal
 
 pub returns-clause-makes : goal.returns-clause-makes
@@ -17,3 +17,6 @@ returns-clause-reads g c =
 
 pub returns-clause-unarmed : goal.returns-clause-unarmed
 returns-clause-unarmed g c = makes_unarmed c.write.result (returns-clause-makes g c)
+
+pub returns-clause-others : goal.returns-clause-others
+returns-clause-others g c = others_read c.args.at (format_within c.args.at c.args.value c.requires.inside (returns-clause-makes g c))
