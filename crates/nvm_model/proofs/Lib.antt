@@ -1,0 +1,4 @@
+pub mod GateLemmas
+pub mod Lists
+pub mod Runs
+pub mod TurnLemmas
