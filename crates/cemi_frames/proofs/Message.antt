@@ -57,6 +57,7 @@ IsFirstMisfit-misfit (suc n) start place (kind ∷ size ∷ rest) found = by (lt
         let size_is : size ≡ length row.content = cc in
         let rest_is : rest ≡ row.content ++ more = cc in
         omega (arith, ap length rest_is, length-append row.content more)
+
     by : (b : Bool) → ltb (length rest) size ≡ b → (misfit n (start + 2 + size) (drop size rest) ≡ Some place → IsFirstMisfit (drop size rest) (start + 2 + size) place) → cond b (Some start) (misfit n (start + 2 + size) (drop size rest)) ≡ Some place → IsFirstMisfit (kind ∷ size ∷ rest) start place
     by true is later found =
         let same : start ≡ place = cc in

@@ -9,8 +9,8 @@ use Rattle.cemi_frames.specs.Faults.{frame_fault}
 abbrev pub HasOneAnswer : List ℕ → Type 0
 HasOneAnswer octets =
     MatchOption (frame_fault octets)
-        ((t : Telegram) × IsFrame octets t × ((other : Telegram) → IsFrame octets other → other ≡ t))
-        (λ _. (t : Telegram) → IsFrame octets t → ⊥)
+    ((t : Telegram) × IsFrame octets t × ((other : Telegram) → IsFrame octets other → other ≡ t))
+    (λ _. (t : Telegram) → IsFrame octets t → ⊥)
 
 -- Before this place stand rows; what is behind them is not empty, and begins with no row.
 pub record IsFirstMisfit (info : List ℕ) (start place : ℕ) : Type 0 where

@@ -23,6 +23,10 @@ marked Ind control = repeat_mark control
 marked Con control = false
 marked Busmon control = repeat_mark control
 
+-- the frame of these octets
+abbrev pub frame_from : Code → ℕ → ℕ → List ℕ → List ℕ → Telegram
+frame_from code control control2 addresses content = said_by code (marked code control) (record { rows = []; control = control; control2 = control2; source = word_at addresses 0; destination = word_at addresses 2; content = content })
+
 -- the frame of a message of data
 abbrev pub data_frame : Code → List ℕ → Telegram
 data_frame code body = said_by code (marked code (slice_index body 0)) (long_fields body (drop 7 body))
