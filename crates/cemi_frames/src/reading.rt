@@ -1,8 +1,8 @@
-ghost use Rattle.std.specs.Prelude.{◌≡◌, ℕ, ◌+◌, ◌<◌, ◌≤◌, [], ◌∷◌, length, take, MatchResult, MatchOption, true, false, IfOk, None, Some, slice_index, slice_range};
+ghost use Rattle.std.specs.Prelude.{◌≡◌, ℕ, ◌+◌, ◌<◌, ◌≤◌, [], ◌∷◌, length, take, MatchResult, MatchOption, true, false, IfOk, None, Some, slice_index};
 ghost use Rattle.cemi_frames.specs.Fields.{check_octet};
 ghost use Rattle.cemi_frames.specs.Frames.{Telegram, IsFrame, telegram};
 ghost use Rattle.cemi_frames.specs.Faults.{frame_fault, misfit, first_of, head_tests, data_tests, standard_tests, extended_tests, raw_tests, body_of, check_test, after_tests, is_code};
-ghost use Rattle.cemi_frames.specs.Reading.{Reads, IsMisfit, FitsRow, code_at, data_frame, standard_frame, extended_frame, raw_frame, frame_at, frame_from, marked, content_place};
+ghost use Rattle.cemi_frames.specs.Reading.{Reads, IsMisfit, FitsRow, code_at, data_frame, standard_frame, extended_frame, raw_frame, frame_at, frame_from, marked, content_place, StandsAt};
 
 use crate::frame::{Code, Frame, NotFrame};
 use knx_base::IndAddr;
@@ -16,7 +16,7 @@ pub fn read_frame(octets: &[u8]) -> Result<Frame<'_>, NotFrame>
     ensures frame { IfOk result (λ found. IsFrame octets.now (telegram found)) }
     ensures only { (t : Telegram) → IsFrame octets.now t → MatchResult result (λ found. telegram found ≡ t) (λ _. ⊥) }
 
-    ensures content { IfOk result (λ found. found.content.now ≡ slice_range octets.now (content_place octets.now) (content_place octets.now + length found.content.now)) }
+    ensures content { IfOk result (λ found. StandsAt octets.now (content_place octets.now) found.content.now) }
 {
     read_parts(octets)
 }
@@ -34,7 +34,11 @@ fn read_parts(octets: &[u8]) -> Result<Frame<'_>, NotFrame>
 // The message code, and what stands after the additional information.
 #[tactic(auto, unfolding(crate::specs::Faults::head_tests))]
 fn read_head(octets: &[u8]) -> Result<(Code, &[u8]), NotFrame>
-    ensures head { MatchResult result (λ head. (first_of (head_tests octets.now) ≡ None) × (head.0 ≡ code_at (slice_index octets.now 0)) × (head.1.now ≡ body_of octets.now)) (λ e. first_of (head_tests octets.now) ≡ Some e) }
+    ensures head { MatchResult result
+        (λ head. (first_of (head_tests octets.now) ≡ None)
+        × (head.0 ≡ code_at (slice_index octets.now 0))
+        × (head.1.now ≡ body_of octets.now))
+        (λ e. first_of (head_tests octets.now) ≡ Some e) }
 {
     let [first, after @ ..] = octets else {
         return Err(NotFrame::Short(0));
@@ -57,7 +61,9 @@ fn read_head(octets: &[u8]) -> Result<(Code, &[u8]), NotFrame>
 }
 
 fn code_of(octet: u8) -> Option<Code>
-    ensures { MatchOption result (is_code octet ≡ false) (λ code. (is_code octet ≡ true) × (code ≡ code_at octet)) }
+    ensures { MatchOption result
+        (is_code octet ≡ false)
+        (λ code. (is_code octet ≡ true) × (code ≡ code_at octet)) }
 {
     match octet {
         0x11 => Some(Code::Req),
@@ -155,7 +161,9 @@ fn read_extended(raw: &[u8], whole: usize) -> Result<Frame<'_>, NotFrame>
 
 // A length octet counts the octets of the content after the first one.
 fn content_size(length: u8) -> Result<usize, NotFrame>
-    ensures { MatchResult result (λ size. (length < 255) × (size ≡ length + 1)) (λ e. (length ≡ 255) × (e ≡ NotFrame.Escape)) }
+    ensures { MatchResult result
+        (λ size. (length < 255) × (size ≡ length + 1))
+        (λ e. (length ≡ 255) × (e ≡ NotFrame.Escape)) }
 {
     if length == 255 {
         return Err(NotFrame::Escape);
@@ -167,7 +175,11 @@ fn content_size(length: u8) -> Result<usize, NotFrame>
 fn checked_content<'a>(raw: &[u8], after: &'a [u8], size: usize) -> Result<&'a [u8], NotFrame>
     requires some { 0 < length raw.now }
     requires fits { size ≤ 255 }
-    ensures { MatchResult result (λ content. (first_of (after_tests raw.now after.entry.now size) ≡ None) × (size + 1 ≡ length after.entry.now) × (content.now ≡ take size after.entry.now)) (λ e. first_of (after_tests raw.now after.entry.now size) ≡ Some e) }
+    ensures { MatchResult result
+        (λ content. (first_of (after_tests raw.now after.entry.now size) ≡ None)
+        × (size + 1 ≡ length after.entry.now)
+        × (content.now ≡ take size after.entry.now))
+        (λ e. first_of (after_tests raw.now after.entry.now size) ≡ Some e) }
 {
     if after.len() != size + 1 {
         return Err(NotFrame::Length(size + 1, after.len()));
@@ -203,7 +215,9 @@ fn is_repeated(code: Code, control: u8) -> bool
 // The last octet is the check octet of those before it.
 fn test_check(raw: &[u8]) -> Result<(), NotFrame>
     requires { 0 < length raw.now }
-    ensures { MatchResult result (λ _. first_of (check_test raw.now ∷ []) ≡ None) (λ e. first_of (check_test raw.now ∷ []) ≡ Some e) }
+    ensures { MatchResult result
+        (λ _. first_of (check_test raw.now ∷ []) ≡ None)
+        (λ e. first_of (check_test raw.now ∷ []) ≡ Some e) }
 {
     let last = raw.len() - 1;
     let computed = check_of(&raw[..last]);
