@@ -9,7 +9,7 @@ use Rattle.cemi_frames.specs.declared.frame.Frame.{Frame}
 use Rattle.cemi_frames.specs.declared.frame.NotFrame.{NotFrame}
 use Rattle.cemi_frames.specs.Frames.{Telegram, telegram, IsFrame, AreOctets}
 use Rattle.cemi_frames.specs.Faults.{body_place, body_of, is_standard, frame_fault}
-use Rattle.cemi_frames.specs.Reading.{data_frame, standard_frame, extended_frame, raw_frame, body_frame, code_at, frame_at, content_place, Reads}
+use Rattle.cemi_frames.specs.Reading.{data_frame, standard_frame, extended_frame, raw_frame, body_frame, code_at, frame_at, content_place, StandsAt, Reads}
 use Rattle.cemi_frames.proofs.OneAnswer.{is_frame, frame_is_read}
 
 pub found_frame : (octets : List ℕ) (r : Result Frame NotFrame) → AreOctets octets → Reads r (frame_fault octets) (frame_at octets) → IfOk r (λ found. IsFrame octets (telegram found))
@@ -39,9 +39,6 @@ rest_again place octets =
     let size : place + length (drop place octets) - place ≡ length (drop place octets) = omega arith in
     sym (ap (λ (k : ℕ). take k (drop place octets)) size ∙ take_all (length (drop place octets)) (drop place octets) (omega arith))
 
-abbrev StandsAt : List ℕ → ℕ → List ℕ → Type 0
-StandsAt octets place content = content ≡ slice_range octets place (place + length content)
-
 data_stands : (octets : List ℕ) → StandsAt octets (body_place octets + 7) (drop 7 (body_of octets))
 data_stands octets = subst (StandsAt octets (body_place octets + 7)) (sym (drop-drop 7 (body_place octets) octets)) (rest_again (body_place octets + 7) octets)
 
@@ -59,6 +56,6 @@ content-stands octets = by (eqb (slice_index octets 0) 0x2b) (eqb (slice_index o
     by false false true standard is = data_stands octets
     by false false false standard is = data_stands octets
 
-pub found_content : (octets : List ℕ) (r : Result Frame NotFrame) → Reads r (frame_fault octets) (frame_at octets) → IfOk r (λ found. found.content.now ≡ slice_range octets (content_place octets) (content_place octets + length found.content.now))
+pub found_content : (octets : List ℕ) (r : Result Frame NotFrame) → Reads r (frame_fault octets) (frame_at octets) → IfOk r (λ found. StandsAt octets (content_place octets) found.content.now)
 found_content octets (Ok found) reads = subst (λ (t : Telegram). StandsAt octets (content_place octets) t.content) (sym reads.1) (content-stands octets)
 found_content octets (Err fault) reads = tt

@@ -2,12 +2,13 @@
 use Rattle.std.proofs.Common.{◌≡◌, ◌≢◌, ℕ, zero, suc, ◌+◌, ◌-◌, ◌<◌, ◌≤◌, Bool, true, false, cond, eqb, ltb, List, [], ◌∷◌, ◌++◌, length, get_or, take, drop, Option, Some, None, refl, sym, ap, ◌∙◌, arith, append_assoc, length-append}
 use Rattle.std.specs.Prelude.{is_some, unwrap_or}
 use Rattle.std.specs.List.{flat_map}
-use Rattle.std.proofs.lemmas.Bool.{eq-eqb, ne_eqb, eqb-false, ltb-false, le-ltb}
+use Rattle.std.proofs.lemmas.Bool.{eq-eqb, ne_eqb, eqb-false, ltb-true, ltb-false, le-ltb}
 use Rattle.std.proofs.lemmas.List.{length-drop, length-take, take-append-drop, take_at, drop_at, drop-drop}
 use Rattle.std.proofs.lemmas.List.Concat.{flat_map-cons}
 use Rattle.cemi_frames.specs.declared.frame.NotFrame.TheVariants as faults
 use Rattle.cemi_frames.specs.Fields.{InfoRow, row_octets, info_octets, message}
 use Rattle.cemi_frames.specs.Faults.{Refusal, first_of, opposite, misfit, info_misfit, body_place, body_of, is_code, head_tests}
+use Rattle.cemi_frames.specs.Law.{IsFirstMisfit, info_of}
 use Rattle.cemi_frames.proofs.Passing.{passed, opposite-false}
 use Rattle.cemi_frames.proofs.Info.{misfit-enough}
 
@@ -40,6 +41,45 @@ rows-misfit (suc n) place (kind ∷ size ∷ rest) enough fit = by (ltb (length 
         let row : InfoRow = record { kind = kind; content = take size rest } in
         let whole : take size rest ++ flat_map row_octets more.0 ≡ rest = ap (λ (t : List ℕ). take size rest ++ t) (sym more.1) ∙ take-append-drop size rest in
         (row ∷ more.0, sym (flat_map-cons row_octets row more.0 ∙ rw (size_is, whole) refl))
+
+-- A row that does not fit stands behind rows that do.
+IsFirstMisfit-misfit : (n start place : ℕ) (info : List ℕ) → misfit n start info ≡ Some place → IsFirstMisfit info start place
+unfolding misfit
+IsFirstMisfit-misfit zero start place info found = absurd cc
+IsFirstMisfit-misfit (suc n) start place [] found = absurd cc
+IsFirstMisfit-misfit (suc n) start place (kind ∷ []) found =
+    let same : start ≡ place = cc in
+    record { rows = []; rest = kind ∷ []; parts = refl; place_is = omega arith; some = omega arith; no_row = λ row more is. let sizes = ap length is in absurd (omega arith) }
+IsFirstMisfit-misfit (suc n) start place (kind ∷ size ∷ rest) found = by (ltb (length rest) size) refl (IsFirstMisfit-misfit n (start + 2 + size) place (drop size rest)) found
+  where
+    too_long : length rest < size → (row : InfoRow) (more : List ℕ) → kind ∷ size ∷ rest ≡ row_octets row ++ more → ⊥
+    too_long short row more is =
+        let size_is : size ≡ length row.content = cc in
+        let rest_is : rest ≡ row.content ++ more = cc in
+        omega (arith, ap length rest_is, length-append row.content more)
+
+    by : (b : Bool) → ltb (length rest) size ≡ b → (misfit n (start + 2 + size) (drop size rest) ≡ Some place → IsFirstMisfit (drop size rest) (start + 2 + size) place) → cond b (Some start) (misfit n (start + 2 + size) (drop size rest)) ≡ Some place → IsFirstMisfit (kind ∷ size ∷ rest) start place
+    by true is later found =
+        let same : start ≡ place = cc in
+        record { rows = []; rest = kind ∷ size ∷ rest; parts = refl; place_is = omega arith; some = omega arith; no_row = too_long (ltb-true _ _ is) }
+    by false is later found =
+        let behind = later found in
+        let long : size ≤ length rest = ltb-false _ _ is in
+        let size_is : length (take size rest) ≡ size = omega (arith, length-take size rest) in
+        let row : InfoRow = record { kind = kind; content = take size rest } in
+        let whole : rest ≡ take size rest ++ (flat_map row_octets behind.rows ++ behind.rest) = sym (take-append-drop size rest) ∙ ap (λ (t : List ℕ). take size rest ++ t) behind.parts in
+        let cons : flat_map row_octets (row ∷ behind.rows) ≡ kind ∷ size ∷ (take size rest ++ flat_map row_octets behind.rows) = flat_map-cons row_octets row behind.rows ∙ rw size_is refl in
+        record {
+          rows = row ∷ behind.rows;
+          rest = behind.rest;
+          parts = ap (λ (t : List ℕ). kind ∷ size ∷ t) (whole ∙ sym (append_assoc (take size rest) (flat_map row_octets behind.rows) behind.rest)) ∙ ap (λ (t : List ℕ). t ++ behind.rest) (sym cons);
+          place_is = omega (arith, behind.place_is, ap length cons, length-append (take size rest) (flat_map row_octets behind.rows));
+          some = behind.some;
+          no_row = behind.no_row;
+        }
+
+pub first_misfit : (octets : List ℕ) (place : ℕ) → info_misfit octets ≡ Some place → IsFirstMisfit (info_of octets) 2 place
+first_misfit octets place found = IsFirstMisfit-misfit (get_or octets 1 0) 2 place (info_of octets) found
 
 -- ---- the tests of the head
 

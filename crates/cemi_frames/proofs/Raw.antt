@@ -38,6 +38,9 @@ check-octets front =
 front-size : (raw : List ℕ) → length (front_of raw) ≡ length raw - 1
 front-size raw = omega (arith, length-take (length raw - 1) raw)
 
+front-at : (raw : List ℕ) (i : ℕ) → i + 1 < length raw → get_or (front_of raw) i 0 ≡ get_or raw i 0
+front-at raw i within = get_or-take (length raw - 1) raw i 0 (omega arith)
+
 front-octets : (raw : List ℕ) → AreOctets raw → AreOctets (front_of raw)
 front-octets raw octets i =
     elim (cases_lt i (length raw - 1)) [
@@ -58,17 +61,11 @@ extended-octets whole raw octets none =
     let found : length raw - 7 ≡ get_or raw 6 0 + 2 = differ-false _ _ size.0 in
     let no_escape : get_or raw 6 0 ≢ 255 = eqb-false _ _ escape.0 in
     let fs = front-size raw in
-    let at6 : get_or (front_of raw) 6 0 ≡ get_or raw 6 0 = get_or-take (length raw - 1) raw 6 0 (omega arith) in
+    let at6 = front-at raw 6 (omega arith) in
     let byte6 = octets 6 in
     let fields : front_of raw ≡ long_octets (long_fields (front_of raw) (drop 7 (front_of raw))) = long_octets-fields (front_of raw) (front-octets raw octets) (omega arith) (omega arith) in
     let content : drop 7 (front_of raw) ≡ take (length raw - 8) (drop 7 raw) = let size_is : length raw - 1 ≡ 7 + (length raw - 8) = omega arith in ap (λ (k : ℕ). drop 7 (take k raw)) size_is ∙ drop-take 7 (length raw - 8) raw in
-    let g0 : get_or (front_of raw) 0 0 ≡ get_or raw 0 0 = get_or-take (length raw - 1) raw 0 0 (omega arith) in
-    let g1 : get_or (front_of raw) 1 0 ≡ get_or raw 1 0 = get_or-take (length raw - 1) raw 1 0 (omega arith) in
-    let g2 : get_or (front_of raw) 2 0 ≡ get_or raw 2 0 = get_or-take (length raw - 1) raw 2 0 (omega arith) in
-    let g3 : get_or (front_of raw) 3 0 ≡ get_or raw 3 0 = get_or-take (length raw - 1) raw 3 0 (omega arith) in
-    let g4 : get_or (front_of raw) 4 0 ≡ get_or raw 4 0 = get_or-take (length raw - 1) raw 4 0 (omega arith) in
-    let g5 : get_or (front_of raw) 5 0 ≡ get_or raw 5 0 = get_or-take (length raw - 1) raw 5 0 (omega arith) in
-    let same : long_fields (front_of raw) (drop 7 (front_of raw)) ≡ long_fields raw (take (length raw - 8) (drop 7 raw)) = rw (g0, g1, g2, g3, g4, g5, content) refl in
+    let same : long_fields (front_of raw) (drop 7 (front_of raw)) ≡ long_fields raw (take (length raw - 8) (drop 7 raw)) = rw (front-at raw 0 (omega arith), front-at raw 1 (omega arith), front-at raw 2 (omega arith), front-at raw 3 (omega arith), front-at raw 4 (omega arith), front-at raw 5 (omega arith), content) refl in
     (check-passed raw (omega arith) size.1 ∙ ap checked (fields ∙ ap long_octets same), omega (arith, length-take (length raw - 8) (drop 7 raw), length-drop 7 raw), omega (arith, length-take (length raw - 8) (drop 7 raw), length-drop 7 raw))
 
 pub octets-extended : (whole : ℕ) (f : Fields) → 0 < length f.content → length f.content ≤ 255
@@ -116,15 +113,10 @@ standard-octets whole raw octets none =
     let long : 6 ≤ length raw = ltb-false _ _ short.0 in
     let found : length raw - 6 ≡ get_or raw 5 0 % 16 + 2 = differ-false _ _ size.0 in
     let fs = front-size raw in
-    let g0 : get_or (front_of raw) 0 0 ≡ get_or raw 0 0 = get_or-take (length raw - 1) raw 0 0 (omega arith) in
-    let g1 : get_or (front_of raw) 1 0 ≡ get_or raw 1 0 = get_or-take (length raw - 1) raw 1 0 (omega arith) in
-    let g2 : get_or (front_of raw) 2 0 ≡ get_or raw 2 0 = get_or-take (length raw - 1) raw 2 0 (omega arith) in
-    let g3 : get_or (front_of raw) 3 0 ≡ get_or raw 3 0 = get_or-take (length raw - 1) raw 3 0 (omega arith) in
-    let g4 : get_or (front_of raw) 4 0 ≡ get_or raw 4 0 = get_or-take (length raw - 1) raw 4 0 (omega arith) in
-    let g5 : get_or (front_of raw) 5 0 ≡ get_or raw 5 0 = get_or-take (length raw - 1) raw 5 0 (omega arith) in
+    let at5 = front-at raw 5 (omega arith) in
     let fields : front_of raw ≡ standard_octets (standard_fields (front_of raw) (drop 6 (front_of raw))) = standard_octets-fields (front_of raw) (front-octets raw octets) (omega arith) (omega arith) in
     let content : drop 6 (front_of raw) ≡ take (length raw - 7) (drop 6 raw) = let size_is : length raw - 1 ≡ 6 + (length raw - 7) = omega arith in ap (λ (k : ℕ). drop 6 (take k raw)) size_is ∙ drop-take 6 (length raw - 7) raw in
-    let same : standard_fields (front_of raw) (drop 6 (front_of raw)) ≡ standard_fields raw (take (length raw - 7) (drop 6 raw)) = rw (g0, g1, g2, g3, g4, g5, content) refl in
+    let same : standard_fields (front_of raw) (drop 6 (front_of raw)) ≡ standard_fields raw (take (length raw - 7) (drop 6 raw)) = rw (front-at raw 0 (omega arith), front-at raw 1 (omega arith), front-at raw 2 (omega arith), front-at raw 3 (omega arith), front-at raw 4 (omega arith), front-at raw 5 (omega arith), content) refl in
     (check-passed raw (omega arith) size.1 ∙ ap checked (fields ∙ ap standard_octets same), omega (arith, length-take (length raw - 7) (drop 6 raw), length-drop 6 raw), omega (arith, length-take (length raw - 7) (drop 6 raw), length-drop 6 raw))
 
 pub octets-standard : (whole : ℕ) (f : Fields) → f.control2 % 16 ≡ 0 → 0 < length f.content → length f.content ≤ 16

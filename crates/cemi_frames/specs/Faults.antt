@@ -76,6 +76,13 @@ check_test raw =
     let computed = check_octet (take (length raw - 1) raw) in
     refuse (differ said computed) (faults.Check said computed)
 
+-- what stands after the header of a raw frame: this many octets of content, and the check octet
+abbrev pub after_tests : List ℕ → List ℕ → ℕ → List Refusal
+after_tests raw after size =
+    refuse (differ (length after) (size + 1)) (faults.Length (size + 1) (length after))
+    ∷ check_test raw
+    ∷ []
+
 -- the length is the low four bits of the sixth octet
 unfoldable pub standard_tests : ℕ → List ℕ → List Refusal
 standard_tests whole raw =

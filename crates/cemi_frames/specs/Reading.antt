@@ -1,5 +1,5 @@
 -- What stands at which place of octets that are a frame, for the readers of its parts.
-use Rattle.std.specs.Prelude.{◌≡◌, ℕ, ◌+◌, ◌-◌, ◌*◌, ◌/◌, ◌<◌, ◌≤◌, List, [], ◌∷◌, ◌++◌, length, slice_index, take, drop, Bool, true, false, ◌==◌, ◌&&◌, if◌then◌else◌, Option, Some, None, Result, Ok, Err, MatchResult}
+use Rattle.std.specs.Prelude.{◌≡◌, ℕ, ◌+◌, ◌-◌, ◌*◌, ◌/◌, ◌<◌, ◌≤◌, List, [], ◌∷◌, ◌++◌, length, slice_index, slice_range, take, drop, Bool, true, false, ◌==◌, ◌&&◌, if◌then◌else◌, Option, Some, None, Result, Ok, Err, MatchResult}
 use Rattle.cemi_frames.specs.declared.frame.Code.{Code}
 use Rattle.cemi_frames.specs.declared.frame.Code.TheVariants.{Req, Ind, Con, Busmon}
 use Rattle.cemi_frames.specs.declared.frame.Frame.{Frame}
@@ -22,6 +22,10 @@ marked Req control = false
 marked Ind control = repeat_mark control
 marked Con control = false
 marked Busmon control = repeat_mark control
+
+-- the frame of these octets
+abbrev pub frame_from : Code → ℕ → ℕ → List ℕ → List ℕ → Telegram
+frame_from code control control2 addresses content = said_by code (marked code control) (record { rows = []; control = control; control2 = control2; source = word_at addresses 0; destination = word_at addresses 2; content = content })
 
 -- the frame of a message of data
 abbrev pub data_frame : Code → List ℕ → Telegram
@@ -53,6 +57,10 @@ frame_at octets = body_frame (code_at (slice_index octets 0)) (body_of octets)
 -- where its content begins
 abbrev pub content_place : List ℕ → ℕ
 content_place octets = body_place octets + (if slice_index octets 0 == 0x2b && is_standard (slice_index (body_of octets) 0) then 6 else 7)
+
+-- The content is this part of the octets.
+abbrev pub StandsAt : List ℕ → ℕ → List ℕ → Type 0
+StandsAt octets place content = content ≡ slice_range octets place (place + length content)
 
 -- A reader answers this frame where there is no fault, and else the fault.
 abbrev pub Reads : Result Frame NotFrame → Option NotFrame → Telegram → Type 0

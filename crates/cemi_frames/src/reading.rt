@@ -1,8 +1,8 @@
-ghost use Rattle.std.specs.Prelude.{◌≡◌, ℕ, ◌+◌, ◌/◌, ◌%◌, ◌<◌, ◌≤◌, [], ◌∷◌, length, MatchResult, MatchOption, true, false, IfOk, None, Some, slice_index, slice_range};
+ghost use Rattle.std.specs.Prelude.{◌≡◌, ℕ, ◌+◌, ◌<◌, ◌≤◌, [], ◌∷◌, length, take, MatchResult, MatchOption, true, false, IfOk, None, Some, slice_index};
 ghost use Rattle.cemi_frames.specs.Fields.{check_octet};
-ghost use Rattle.cemi_frames.specs.Frames.{Telegram, IsFrame, telegram, repeat_mark};
-ghost use Rattle.cemi_frames.specs.Faults.{frame_fault, misfit, first_of, head_tests, data_tests, standard_tests, extended_tests, raw_tests, body_of, check_test, is_code};
-ghost use Rattle.cemi_frames.specs.Reading.{Reads, IsMisfit, FitsRow, code_at, data_frame, standard_frame, extended_frame, raw_frame, frame_at, content_place};
+ghost use Rattle.cemi_frames.specs.Frames.{Telegram, IsFrame, telegram};
+ghost use Rattle.cemi_frames.specs.Faults.{frame_fault, misfit, first_of, head_tests, data_tests, standard_tests, extended_tests, raw_tests, body_of, check_test, after_tests, is_code};
+ghost use Rattle.cemi_frames.specs.Reading.{Reads, IsMisfit, FitsRow, code_at, data_frame, standard_frame, extended_frame, raw_frame, frame_at, frame_from, marked, content_place, StandsAt};
 
 use crate::frame::{Code, Frame, NotFrame};
 use knx_base::IndAddr;
@@ -16,7 +16,7 @@ pub fn read_frame(octets: &[u8]) -> Result<Frame<'_>, NotFrame>
     ensures frame { IfOk result (λ found. IsFrame octets.now (telegram found)) }
     ensures only { (t : Telegram) → IsFrame octets.now t → MatchResult result (λ found. telegram found ≡ t) (λ _. ⊥) }
 
-    ensures content { IfOk result (λ found. found.content.now ≡ slice_range octets.now (content_place octets.now) (content_place octets.now + length found.content.now)) }
+    ensures content { IfOk result (λ found. StandsAt octets.now (content_place octets.now) found.content.now) }
 {
     read_parts(octets)
 }
@@ -34,7 +34,11 @@ fn read_parts(octets: &[u8]) -> Result<Frame<'_>, NotFrame>
 // The message code, and what stands after the additional information.
 #[tactic(auto, unfolding(crate::specs::Faults::head_tests))]
 fn read_head(octets: &[u8]) -> Result<(Code, &[u8]), NotFrame>
-    ensures head { MatchResult result (λ head. (first_of (head_tests octets.now) ≡ None) × (head.0 ≡ code_at (slice_index octets.now 0)) × (head.1.now ≡ body_of octets.now)) (λ e. first_of (head_tests octets.now) ≡ Some e) }
+    ensures head { MatchResult result
+        (λ head. (first_of (head_tests octets.now) ≡ None)
+        × (head.0 ≡ code_at (slice_index octets.now 0))
+        × (head.1.now ≡ body_of octets.now))
+        (λ e. first_of (head_tests octets.now) ≡ Some e) }
 {
     let [first, after @ ..] = octets else {
         return Err(NotFrame::Short(0));
@@ -57,7 +61,9 @@ fn read_head(octets: &[u8]) -> Result<(Code, &[u8]), NotFrame>
 }
 
 fn code_of(octet: u8) -> Option<Code>
-    ensures { MatchOption result (is_code octet ≡ false) (λ code. (is_code octet ≡ true) × (code ≡ code_at octet)) }
+    ensures { MatchOption result
+        (is_code octet ≡ false)
+        (λ code. (is_code octet ≡ true) × (code ≡ code_at octet)) }
 {
     match octet {
         0x11 => Some(Code::Req),
@@ -102,25 +108,15 @@ fn row_size(info: &[u8]) -> Option<usize>
 fn read_data(code: Code, body: &[u8], whole: usize) -> Result<Frame<'_>, NotFrame>
     ensures { Reads result (first_of (data_tests whole body.now)) (data_frame code body.now) }
 {
-    let [control, control2, s1, s0, d1, d0, size, content @ ..] = body else {
+    let [control, control2, s1, s0, d1, d0, length, content @ ..] = body else {
         return Err(NotFrame::Short(whole));
     };
-    if *size == 255 {
-        return Err(NotFrame::Escape);
+    let size = content_size(*length)?;
+    if content.len() != size {
+        return Err(NotFrame::Length(size, content.len()));
     }
-    let wanted = *size as usize + 1;
-    if content.len() != wanted {
-        return Err(NotFrame::Length(wanted, content.len()));
-    }
-    Ok(Frame {
-        code,
-        repeated: matches!(code, Code::Ind | Code::Busmon) && is_marked(*control),
-        priority: priority_of(*control),
-        control2: *control2,
-        source: IndAddr(u16::from_be_bytes([*s1, *s0])),
-        destination: u16::from_be_bytes([*d1, *d0]),
-        content,
-    })
+    let addresses = [*s1, *s0, *d1, *d0];
+    Ok(frame_of(code, *control, *control2, addresses, content))
 }
 
 // A raw frame.
@@ -146,54 +142,82 @@ fn read_standard(raw: &[u8], whole: usize) -> Result<Frame<'_>, NotFrame>
     let [control, s1, s0, d1, d0, shared, after @ ..] = raw else {
         return Err(NotFrame::Short(whole));
     };
-    let wanted = (*shared & 0x0f) as usize + 2;
-    if after.len() != wanted {
-        return Err(NotFrame::Length(wanted, after.len()));
-    }
-    let content = &after[..wanted - 1];
-    test_check(raw)?;
-    Ok(Frame {
-        code: Code::Busmon,
-        repeated: is_marked(*control),
-        priority: priority_of(*control),
-        control2: *shared & 0xf0,
-        source: IndAddr(u16::from_be_bytes([*s1, *s0])),
-        destination: u16::from_be_bytes([*d1, *d0]),
-        content,
-    })
+    let content = checked_content(raw, after, (*shared & 0x0f) as usize + 1)?;
+    let addresses = [*s1, *s0, *d1, *d0];
+    Ok(frame_of(Code::Busmon, *control, *shared & 0xf0, addresses, content))
 }
 
 #[tactic(auto, unfolding(crate::specs::Faults::extended_tests))]
 fn read_extended(raw: &[u8], whole: usize) -> Result<Frame<'_>, NotFrame>
     ensures { Reads result (first_of (extended_tests whole raw.now)) (extended_frame raw.now) }
 {
-    let [control, control2, s1, s0, d1, d0, size, after @ ..] = raw else {
+    let [control, control2, s1, s0, d1, d0, length, after @ ..] = raw else {
         return Err(NotFrame::Short(whole));
     };
-    if *size == 255 {
+    let content = checked_content(raw, after, content_size(*length)?)?;
+    let addresses = [*s1, *s0, *d1, *d0];
+    Ok(frame_of(Code::Busmon, *control, *control2, addresses, content))
+}
+
+// A length octet counts the octets of the content after the first one.
+fn content_size(length: u8) -> Result<usize, NotFrame>
+    ensures { MatchResult result
+        (λ size. (length < 255) × (size ≡ length + 1))
+        (λ e. (length ≡ 255) × (e ≡ NotFrame.Escape)) }
+{
+    if length == 255 {
         return Err(NotFrame::Escape);
     }
-    let wanted = *size as usize + 2;
-    if after.len() != wanted {
-        return Err(NotFrame::Length(wanted, after.len()));
+    Ok(length as usize + 1)
+}
+
+// After the header stand the content and the check octet of all octets before it.
+fn checked_content<'a>(raw: &[u8], after: &'a [u8], size: usize) -> Result<&'a [u8], NotFrame>
+    requires some { 0 < length raw.now }
+    requires fits { size ≤ 255 }
+    ensures { MatchResult result
+        (λ content. (first_of (after_tests raw.now after.entry.now size) ≡ None)
+        × (size + 1 ≡ length after.entry.now)
+        × (content.now ≡ take size after.entry.now))
+        (λ e. first_of (after_tests raw.now after.entry.now size) ≡ Some e) }
+{
+    if after.len() != size + 1 {
+        return Err(NotFrame::Length(size + 1, after.len()));
     }
-    let content = &after[..wanted - 1];
     test_check(raw)?;
-    Ok(Frame {
-        code: Code::Busmon,
-        repeated: is_marked(*control),
-        priority: priority_of(*control),
-        control2: *control2,
-        source: IndAddr(u16::from_be_bytes([*s1, *s0])),
-        destination: u16::from_be_bytes([*d1, *d0]),
+    Ok(&after[..size])
+}
+
+fn frame_of(code: Code, control: u8, control2: u8, addresses: [u8; 4], content: &[u8]) -> Frame<'_>
+    requires not_empty { 0 < length content.now }
+    requires fits { length content.now ≤ 255 }
+    ensures { telegram result ≡ frame_from code control control2 addresses content.now }
+{
+    let [s1, s0, d1, d0] = addresses;
+    Frame {
+        code,
+        repeated: is_repeated(code, control),
+        priority: control >> 2 & 3,
+        control2,
+        source: IndAddr(u16::from_be_bytes([s1, s0])),
+        destination: u16::from_be_bytes([d1, d0]),
         content,
-    })
+    }
+}
+
+// Bit 5 marks a repetition, in what was received.
+fn is_repeated(code: Code, control: u8) -> bool
+    ensures { result ≡ marked code control }
+{
+    matches!(code, Code::Ind | Code::Busmon) && control >> 5 & 1 == 0
 }
 
 // The last octet is the check octet of those before it.
 fn test_check(raw: &[u8]) -> Result<(), NotFrame>
     requires { 0 < length raw.now }
-    ensures { MatchResult result (λ _. first_of (check_test raw.now ∷ []) ≡ None) (λ e. first_of (check_test raw.now ∷ []) ≡ Some e) }
+    ensures { MatchResult result
+        (λ _. first_of (check_test raw.now ∷ []) ≡ None)
+        (λ e. first_of (check_test raw.now ∷ []) ≡ Some e) }
 {
     let last = raw.len() - 1;
     let computed = check_of(&raw[..last]);
@@ -209,16 +233,4 @@ pub(crate) fn check_of(raw: &[u8]) -> u8
     ensures { result ≡ check_octet raw.now }
 {
     !raw.iter().fold(0, |sum, octet| sum ^ octet)
-}
-
-fn is_marked(control: u8) -> bool
-    ensures { result ≡ repeat_mark control }
-{
-    control >> 5 & 1 == 0
-}
-
-fn priority_of(control: u8) -> u8
-    ensures { result ≡ control / 4 % 4 }
-{
-    control >> 2 & 3
 }
