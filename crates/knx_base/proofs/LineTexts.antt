@@ -1,8 +1,8 @@
 -- The words of a line and the lines of a text, taken off from the front.
 use Prim.Native.Nat.{zero}
-use Rattle.std.proofs.Common.{◌≡◌, ℕ, ◌+◌, ◌<◌, ◌≤◌, ◌||◌, ◌&&◌, Bool, true, false, cond, not, nat_lt, List, [], ◌∷◌, ◌++◌, length, get_or, take, drop, Option, Some, None, suc, subst, refl, sym, ap, ◌∙◌, arith, one-add, get_or-drop, length-drop}
-use Rattle.std.specs.Prelude.{MatchOption, position, unwrap_or, ◌==◌}
-use Rattle.std.specs.List.{filter, list_all, slice_split, onto_first, position_or_len, All}
+use Rattle.std.proofs.Common.{◌≡◌, ℕ, ◌+◌, ◌<◌, ◌≤◌, ◌&&◌, Bool, true, false, cond, not, nat_lt, List, [], ◌∷◌, length, get_or, take, drop, Option, Some, None, suc, subst, refl, sym, ap, ◌∙◌, arith, one-add, get_or-drop, length-drop}
+use Rattle.std.specs.Prelude.{position, unwrap_or, ◌==◌}
+use Rattle.std.specs.List.{filter, list_all, slice_split, onto_first, position_or_len}
 use Rattle.std.specs.Str.Lines.{lines, lines_of_parts, strip_carriage_return}
 use Rattle.std.proofs.Math.ListN.{drop_of_length-le}
 use Rattle.std.proofs.lemmas.Bool.Decides.{nat_tests}

@@ -2,7 +2,6 @@
 -- feed, and the last may end with the text: `lines` of std says which lines a text has.
 use Rattle.std.specs.Prelude.{ℕ, ◌==◌, ◌||◌, ◌&&◌, nat_le, nat_lt, Bool, true, false, if◌then◌else◌, List, [], ◌∷◌, length, slice_index, Option, Some, None, Result, Ok, Err}
 use Rattle.std.specs.List.{filter, list_all, slice_split}
-use Rattle.std.specs.Str.Lines.{lines}
 use Rattle.knx_base.specs.declared.cause.Cause.{Cause}
 use Rattle.knx_base.specs.declared.cause.Cause.TheVariants as cause
 

@@ -1,5 +1,4 @@
-use Rattle.std.proofs.Common.{sym, ap, ◌∙◌, ◌∷◌, take, drop, rules}
-use Rattle.knx_base.specs.Lines.{words_of}
+use Rattle.std.proofs.Common.{sym, ◌∙◌, rules}
 use Rattle.knx_base.proofs.LineTexts.{no_word, word_cut}
 use Rattle.knx_base.proofs.lines.first_word.Goals as goal
 
