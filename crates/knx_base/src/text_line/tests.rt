@@ -1,0 +1,60 @@
+use crate::{Failed, Files, LineRead, MemFiles, Source, TextLine, read_line};
+use std::test::Fail;
+
+#[test]
+fn a_file_is_read_line_by_line(rt: HostRuntime) -> Result<(), Fail> {
+    let mut files = MemFiles::new(rt.alloc());
+    files.add("name", b"a\r\n\nb\rc")?;
+    assert_eq!(rt; files.open("name"), Ok(()));
+    let mut source = Source::new();
+    let mut line = TextLine::new();
+    for expected in [b"a".as_slice(), b"", b"b\rc"] {
+        assert_eq!(rt;
+            read_line(&mut source, &mut files, &mut line),
+            Ok(LineRead::Whole)
+        );
+        assert_eq!(rt; line.bytes(), expected);
+    }
+    assert_eq!(rt;
+        read_line(&mut source, &mut files, &mut line),
+        Ok(LineRead::End)
+    );
+    Ok(())
+}
+
+#[test]
+fn a_line_has_at_most_1024_octets(rt: HostRuntime) -> Result<(), Fail> {
+    let mut files = MemFiles::new(rt.alloc());
+    let mut text = [b'#'; 1026];
+    text[1024] = b'\r';
+    text[1025] = b'\n';
+    files.add("longest", &text)?;
+    text[1024] = b'#';
+    files.add("long", &text)?;
+    let mut source = Source::new();
+    let mut line = TextLine::new();
+    assert_eq!(rt; files.open("longest"), Ok(()));
+    assert_eq!(rt;
+        read_line(&mut source, &mut files, &mut line),
+        Ok(LineRead::Whole)
+    );
+    assert_eq!(rt; line.bytes(), &text[..1024]);
+    assert_eq!(rt; files.open("long"), Ok(()));
+    assert_eq!(rt;
+        read_line(&mut source, &mut files, &mut line),
+        Ok(LineRead::Long)
+    );
+    Ok(())
+}
+
+#[test]
+fn a_failure_is_handed_on(rt: HostRuntime) -> Result<(), Fail> {
+    let mut files = MemFiles::new(rt.alloc());
+    files.add("name", b"a")?;
+    files.fail_at(2)?;
+    assert_eq!(rt; files.open("name"), Ok(()));
+    let mut source = Source::new();
+    let mut line = TextLine::new();
+    assert_eq!(rt; read_line(&mut source, &mut files, &mut line), Err(Failed));
+    Ok(())
+}
