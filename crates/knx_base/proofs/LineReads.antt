@@ -10,7 +10,7 @@ use Rattle.knx_base.specs.Files.{Seen}
 use Rattle.knx_base.specs.Lines.{most_octets}
 use Rattle.knx_base.specs.Reading.{WhereTold, ahead, BeginsLong, ReadsLine, by_length, last_of}
 use Rattle.knx_base.specs.declared.text_line.LineRead.{LineRead}
-use Rattle.knx_base.specs.declared.text_line.LineRead.TheVariants.{End, Whole, Long}
+use Rattle.knx_base.specs.declared.text_line.LineRead.TheVariants.{Whole, Long}
 
 -- a text without a line feed
 abbrev NoFeed : ℕ → Type 0

@@ -1,8 +1,8 @@
 -- Reading on composes, and what is told of the current file stays told.
-use Rattle.std.proofs.Common.{◌≡◌, ℕ, ◌+◌, ◌-◌, ◌≤◌, List, [], ◌∷◌, ◌++◌, length, drop, Option, Some, None, IsSome, subst, refl, sym, ap, ◌∙◌, append_assoc, append-nil, arith}
+use Rattle.std.proofs.Common.{◌≡◌, ℕ, ◌+◌, List, [], ◌∷◌, ◌++◌, drop, Option, Some, None, IsSome, subst, refl, sym, ap, ◌∙◌, append-nil, arith}
 use Rattle.std.specs.Option.{IsSomeAnd}
-use Rattle.knx_base.specs.Files.{File, Seen, Holds, octets_named, last_place}
-use Rattle.knx_base.specs.Reading.{CurrentHas, WhereTold, ahead, to_come, GoesOn, TakesOctet, count_of}
+use Rattle.knx_base.specs.Files.{File, Seen, Holds, octets_named}
+use Rattle.knx_base.specs.Reading.{CurrentHas, WhereTold, ahead, GoesOn, TakesOctet, count_of}
 
 -- what is told of the current file at one moment is told later
 pub has_same : (old new : Seen) (held kept : List ℕ) (n : ℕ) → GoesOn old new held kept n → (octets : List ℕ) → CurrentHas old octets → CurrentHas new octets

@@ -1,9 +1,9 @@
 -- A file that is read to its end in pieces.
-use Rattle.std.proofs.Common.{◌≡◌, ℕ, ◌+◌, ◌≤◌, List, [], ◌∷◌, ◌++◌, length, drop, Option, Some, None, IsSome, Result, Ok, Err, subst, refl, sym, ap, ◌∙◌, append_assoc, length-drop, arith}
+use Rattle.std.proofs.Common.{◌≡◌, ℕ, ◌≤◌, List, [], ◌++◌, length, drop, Option, Some, None, IsSome, Result, Ok, Err, subst, refl, sym, ap, ◌∙◌, append_assoc, length-drop, arith}
 use Rattle.std.specs.Prelude.{IfOk, option_map}
 use Rattle.std.specs.Option.{IsSomeAnd}
 use Rattle.knx_base.specs.Files.{File, Seen, Holds, IsAtStart, octets_named}
-use Rattle.knx_base.specs.Reading.{CurrentHas, WhereTold, ahead, to_come, GoesOn, ReadsRest, ReadsWhole}
+use Rattle.knx_base.specs.Reading.{CurrentHas, WhereTold, ahead, GoesOn, ReadsRest, ReadsWhole}
 use Rattle.knx_base.proofs.Readers.{has_same, goes_then}
 
 -- what was held may count as taken

@@ -8,16 +8,24 @@ fn a_file_is_read_line_by_line(rt: HostRuntime) -> Result<(), Fail> {
     assert_eq!(rt; files.open("name"), Ok(()));
     let mut source = Source::new();
     let mut line = TextLine::new();
-    for expected in [b"a".as_slice(), b"", b"b\rc"] {
-        assert_eq!(rt;
-            read_line(&mut source, &mut files, &mut line),
-            Ok(LineRead::Whole)
-        );
-        assert_eq!(rt; line.bytes(), expected);
-    }
     assert_eq!(rt;
-        read_line(&mut source, &mut files, &mut line),
-        Ok(LineRead::End)
+        read_line(&mut source, &mut files, &mut line)?,
+        LineRead::Whole
+    );
+    assert_eq!(rt; line.bytes(), b"a".as_slice());
+    assert_eq!(rt;
+        read_line(&mut source, &mut files, &mut line)?,
+        LineRead::Whole
+    );
+    assert_eq!(rt; line.bytes(), b"".as_slice());
+    assert_eq!(rt;
+        read_line(&mut source, &mut files, &mut line)?,
+        LineRead::Whole
+    );
+    assert_eq!(rt; line.bytes(), b"b\rc".as_slice());
+    assert_eq!(rt;
+        read_line(&mut source, &mut files, &mut line)?,
+        LineRead::End
     );
     Ok(())
 }

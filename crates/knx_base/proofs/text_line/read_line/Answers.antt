@@ -1,4 +1,4 @@
-use Rattle.std.proofs.Common.{ℕ, ◌≡◌, ◌+◌, ◌<◌, List, [], ◌∷◌, ◌++◌, length, subst, sym, ap, ◌∙◌, append_assoc, length-append, rules, arith}
+use Rattle.std.proofs.Common.{ℕ, ◌≡◌, ◌<◌, List, [], ◌∷◌, ◌++◌, length, subst, sym, ap, ◌∙◌, append_assoc, length-append, rules, arith}
 use Rattle.knx_base.specs.Files.{Seen}
 use Rattle.knx_base.specs.Reading.{ahead}
 use Rattle.knx_base.proofs.Readers.{goes_octet, none_taken, octet_taken}

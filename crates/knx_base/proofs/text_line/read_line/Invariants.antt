@@ -1,4 +1,4 @@
-use Rattle.std.proofs.Common.{◌≡◌, ℕ, ◌-◌, ◌≤◌, List, ◌++◌, length, false, eqb}
+use Rattle.std.proofs.Common.{◌≡◌, ◌-◌, ◌≤◌, ◌++◌, length, false, eqb}
 use Rattle.std.specs.List.{All}
 use Rattle.knx_base.specs.Reading.{GoesOn, WhereTold, ahead}
 use Rattle.knx_base.proofs.text_line.read_line.Given as goal

@@ -1,4 +1,3 @@
-use Rattle.std.proofs.Common.{rules}
 use Rattle.knx_base.proofs.WholeFiles.{whole_answer}
 use Rattle.knx_base.proofs.whole_file.read_all.Goals as goal
 

@@ -1,4 +1,4 @@
-use Rattle.std.proofs.Common.{◌≡◌, ℕ, ◌++◌, length, rules, length-append, ap, arith}
+use Rattle.std.proofs.Common.{◌≡◌, ◌++◌, length, rules, length-append, ap, arith}
 use Rattle.knx_base.specs.Files.{Seen}
 use Rattle.knx_base.proofs.WholeFiles.{piece_goes, piece_given}
 use Rattle.knx_base.proofs.whole_file.read_rest.Goals as goal

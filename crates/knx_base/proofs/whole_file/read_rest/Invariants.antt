@@ -1,4 +1,4 @@
-use Rattle.std.proofs.Common.{◌≡◌, ℕ, ◌≤◌, [], ◌++◌, length, drop}
+use Rattle.std.proofs.Common.{◌≡◌, ◌≤◌, [], ◌++◌, length, drop}
 use Rattle.knx_base.specs.Reading.{GoesOn, WhereTold, to_come}
 use Rattle.knx_base.proofs.whole_file.read_rest.Given as goal
 
