@@ -1,6 +1,5 @@
 -- Which octets are which frame: one case for each message code and format.
-use Rattle.std.specs.Prelude.{◌≡◌, ℕ, ◌+◌, ◌*◌, ◌/◌, ◌%◌, ◌<◌, ◌≤◌, ◌⊎◌, List, [], ◌∷◌, ◌++◌, length, slice_index, Bool, true, false, ◌==◌}
-use Rattle.knx_base.specs.declared.address.IndAddr.{IndAddr}
+use Rattle.std.specs.Prelude.{◌≡◌, ℕ, ◌/◌, ◌%◌, ◌<◌, ◌≤◌, ◌⊎◌, List, length, slice_index, Bool, false, ◌==◌}
 use Rattle.cemi_frames.specs.declared.frame.Code.{Code}
 use Rattle.cemi_frames.specs.declared.frame.Code.TheVariants.{Req, Ind, Con, Busmon}
 use Rattle.cemi_frames.specs.declared.frame.Frame.{Frame}
@@ -18,6 +17,10 @@ pub record Telegram : Type 0 where
 
 abbrev pub telegram : Frame → Telegram
 telegram frame = record { code = frame.code; repeated = frame.repeated; priority = frame.priority; control2 = frame.control2; source = frame.source.0; destination = frame.destination; content = frame.content.now }
+
+-- bit 7 of control 2
+abbrev pub is_to_group : ℕ → Bool
+is_to_group control2 = control2 / 128 % 2 == 1
 
 -- what the fields say under a message code
 abbrev pub said_by : Code → Bool → Fields → Telegram

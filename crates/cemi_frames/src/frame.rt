@@ -1,4 +1,4 @@
-ghost use Rattle.std.specs.Prelude.{◌≡◌, ◌/◌, ◌%◌, ◌<◌, ◌≤◌, ◌↔◌, length, IsTrue};
+ghost use Rattle.std.specs.Prelude.{◌≡◌, ◌<◌, ◌≤◌, length};
 
 use knx_base::IndAddr;
 
@@ -30,14 +30,16 @@ pub struct Frame<'a> {
     pub destination: u16,
     /// The octet of transport control and what stands after it.
     pub content: &'a [u8],
-    ghost not_empty: { 0 < length content.now },
-    ghost fits: { length content.now ≤ 255 },
+    pub ghost not_empty: { 0 < length content.now },
+    pub ghost fits: { length content.now ≤ 255 },
 }
 
 impl Frame<'_> {
+    ghost use Rattle.cemi_frames.specs.Frames.{is_to_group};
+
     /// Whether the destination is a group.
     pub fn is_group(&self) -> bool
-        ensures { IsTrue result ↔ (self.now.control2 / 128 % 2 ≡ 1) }
+        ensures group { result ≡ is_to_group self.now.control2 }
     {
         self.control2 & 0x80 != 0
     }
