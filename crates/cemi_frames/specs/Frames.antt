@@ -18,10 +18,6 @@ pub record Telegram : Type 0 where
 abbrev pub telegram : Frame → Telegram
 telegram frame = record { code = frame.code; repeated = frame.repeated; priority = frame.priority; control2 = frame.control2; source = frame.source.0; destination = frame.destination; content = frame.content.now }
 
--- bit 7 of control 2
-abbrev pub is_to_group : ℕ → Bool
-is_to_group control2 = control2 / 128 % 2 == 1
-
 -- what the fields say under a message code
 abbrev pub said_by : Code → Bool → Fields → Telegram
 said_by code repeated f = record { code = code; repeated = repeated; priority = f.control / 4 % 4; control2 = f.control2; source = f.source; destination = f.destination; content = f.content }

@@ -1,4 +1,4 @@
-ghost use Rattle.std.specs.Prelude.{◌≡◌, ◌<◌, ◌≤◌, length};
+ghost use Rattle.std.specs.Prelude.{◌≡◌, ◌/◌, ◌%◌, ◌<◌, ◌≤◌, ◌↔◌, length, IsTrue};
 
 use knx_base::IndAddr;
 
@@ -35,11 +35,9 @@ pub struct Frame<'a> {
 }
 
 impl Frame<'_> {
-    ghost use Rattle.cemi_frames.specs.Frames.{is_to_group};
-
     /// Whether the destination is a group.
     pub fn is_group(&self) -> bool
-        ensures group { result ≡ is_to_group self.now.control2 }
+        ensures { IsTrue result ↔ (self.now.control2 / 128 % 2 ≡ 1) }
     {
         self.control2 & 0x80 != 0
     }
