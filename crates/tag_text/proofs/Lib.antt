@@ -1,0 +1,3 @@
+mod OctetLemmas
+mod AttributeLemmas
+mod ValueLemmas

@@ -1,0 +1,4 @@
+pub mod Octets
+pub mod Values
+pub mod Attributes
+pub mod Reading
