@@ -1,3 +1,4 @@
 mod OctetLemmas
 mod AttributeLemmas
 mod ValueLemmas
+mod PieceLemmas

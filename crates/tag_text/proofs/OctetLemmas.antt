@@ -1,5 +1,5 @@
 -- Where a text may be cut, and what the search for a mark gives.
-use Rattle.std.proofs.Common.{◌≡◌, ◌≢◌, ℕ, zero, suc, ◌+◌, ◌<◌, ◌≤◌, Bool, true, false, cond, not, nat_lt, List, [], ◌∷◌, ◌++◌, length, take, drop, get_or, nat_eq, Option, Some, None, arith, ap, ◌∙◌, sym, refl, subst}
+use Rattle.std.proofs.Common.{◌≡◌, ◌≢◌, ℕ, zero, suc, ◌+◌, ◌<◌, ◌≤◌, Bool, true, false, cond, not, nat_lt, List, [], ◌∷◌, ◌++◌, length, take, drop, get_or, nat_eq, Option, Some, None, arith, ap, ◌∙◌, sym, refl, subst, eqb-true}
 use Rattle.std.specs.List.{prefix_len, position_or_len, starts_with, take_while, before_first, after_first, list_any, slice_split, All}
 use Rattle.std.specs.Option.{option_map, MatchOption}
 use Rattle.std.specs.Str.{IsCharBoundary, IsUtf8}
@@ -13,8 +13,9 @@ use Rattle.std.proofs.lemmas.List.Folds.{list_any_at, list_any_none}
 use Rattle.std.proofs.lemmas.List.Splits.{slice_split_first, slice_split_none}
 use Rattle.std.proofs.lemmas.Str.Pattern.{IsSplitOnceResult, split_once_first}
 use borrow.Author.Tests.{ltb-true, ltb-false}
-use Rattle.std.proofs.lemmas.List.{length-append, length-drop}
+use Rattle.std.proofs.lemmas.List.{length-append, length-drop, length-take, get_or-take, take-append-drop, drop_more}
 use denote.Ref.{Bor}
+use Rattle.tag_text.specs.Pieces.{is_text_octet}
 use Rattle.tag_text.specs.Octets.{is_blank, is_name_octet, is_octet, after_mark, after_first_mark, cut_at}
 
 -- what is no octet of a name is ASCII
@@ -140,8 +141,17 @@ within_any octet text any = within_test octet text (nat_lt (position_or_len (is_
 
 -- a cut is the first part of the list of parts
 pub record IsCut (octet : ℕ) (text front rest : List ℕ) : Type 0 where
+  pub splits : text ≡ front ++ octet ∷ rest
+  pub lacks : All (λ other. is_octet octet other ≡ false) front
   pub parts : slice_split (is_octet octet) text ≡ front ∷ slice_split (is_octet octet) rest
   pub less : length rest < length text
+
+lacks_before : (octet : ℕ) (text : List ℕ) → All (λ other. is_octet octet other ≡ false) (before_first (is_octet octet) text)
+lacks_before octet text =
+    λ k d below.
+    let within : k < position_or_len (is_octet octet) text = omega (arith, below, length-take (position_or_len (is_octet octet) text) text) in
+    rw (get_or-take (position_or_len (is_octet octet) text) text k d within)
+    (by_not_true (is_octet octet (get_or text k d)) (prefix_len_passes (λ (x : ℕ). not (is_octet octet x)) text k d within))
 
 cut_test : (octet : ℕ) (text front rest : List ℕ) (b : Bool) → list_any (is_octet octet) text ≡ b
     → cond {A = Option (List ℕ × List ℕ)} b (Some (before_first (is_octet octet) text, after_first (is_octet octet) text)) None ≡ Some (front, rest) → IsCut octet text front rest
@@ -152,7 +162,15 @@ cut_test octet text front rest true is found =
     let same : here ≡ there = cc found in
     let same_front : before_first (is_octet octet) text ≡ front = ap (λ (pair : List ℕ × List ℕ). pair.0) same in
     let same_rest : after_first (is_octet octet) text ≡ rest = ap (λ (pair : List ℕ × List ℕ). pair.1) same in
+    let place : ℕ = position_or_len (is_octet octet) text in
+    let here_is : get_or text place 0 ≡ octet =
+        eqb-true _ _ (by_not (is_octet octet (get_or text place 0)) (prefix_len_stops (λ (x : ℕ). not (is_octet octet x)) text 0 within)) in
     record {
+      splits =
+          sym (take-append-drop place text)
+          ∙ ap (λ (others : List ℕ). take place text ++ others) (drop_more text place 0 within ∙ ap (λ (first : ℕ). first ∷ drop (place + 1) text) here_is)
+          ∙ cc (same_front, same_rest);
+      lacks = (let P : List ℕ → Type 0 = λ part. All (λ other. is_octet octet other ≡ false) part in subst P same_front (lacks_before octet text));
       parts = slice_split_first (is_octet octet) text 0 within ∙ cc (same_front, same_rest);
       less = omega (arith, within, ap length same_rest, length-drop (position_or_len (is_octet octet) text + 1) text);
     }
@@ -173,3 +191,13 @@ no_cut_test octet text false is none =
 pub no_cut : (octet : ℕ) (text : List ℕ) → None ≡ cut_at octet text → slice_split (is_octet octet) text ≡ text ∷ []
 unfolding cut_at
 no_cut octet text none = no_cut_test octet text (nat_lt (position_or_len (is_octet octet) text) (length text)) refl (sym none)
+
+open_is_ascii : (octet : ℕ) → is_text_octet octet ≡ false → octet < 128
+open_is_ascii octet stops = grind (arith, nat_tests)
+
+text_cut : (text : List ℕ) (n : ℕ) → n ≡ prefix_len is_text_octet text → IsCharBoundary text n
+text_cut text n is = (omega (arith, is, prefix_len-le-length is_text_octet text),
+    λ inside high. absurd (omega (arith, high, open_is_ascii (get_or text n 0) (rw is (prefix_len_stops is_text_octet text 0 (omega (arith, is, inside)))))))
+
+pub cut_after_text : (text : List ℕ) → IsCharBoundary text (length (take_while is_text_octet text))
+cut_after_text text = text_cut text _ (length-prefix_len is_text_octet text)

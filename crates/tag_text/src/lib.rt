@@ -5,6 +5,7 @@
 #![tactic(auto)]
 
 mod octets;
+mod piece;
 mod text;
 mod value;
 

@@ -3,7 +3,8 @@
 ghost use Rattle.std.specs.Prelude.{◌≡◌, ◌<◌, ◌≤◌, ◌↔◌, length, take, drop, take_while, IfSome, IfNone, ◌≢◌, ◌∷◌, ℕ, List};
 ghost use Rattle.std.specs.Option.{option_map};
 ghost use Rattle.std.specs.Str.{IsAscii};
-ghost use Rattle.tag_text.specs.Octets.{is_blank, is_name_start, is_name_octet, begins_name, after_blanks, after_mark, after_first_mark, cut_at, name_at};
+ghost use Rattle.tag_text.specs.Pieces.{begins_blank, begins_text, is_text_octet};
+ghost use Rattle.tag_text.specs.Octets.{drop_while, is_blank, is_name_start, is_name_octet, begins_name, after_blanks, after_mark, after_first_mark, cut_at, name_at};
 
 fn is_blank(octet: u8) -> bool
     ensures blank { result ≡ is_blank octet }
@@ -47,12 +48,44 @@ fn begins_name(octets: &[u8]) -> bool
     octets.first().is_some_and(|octet| is_name_start(*octet))
 }
 
+pub(crate) fn begins_blank(text: &str) -> bool
+    ensures begins { result ≡ begins_blank text.now }
+{
+    text.as_bytes()
+        .first()
+        .is_some_and(|octet| is_blank(*octet))
+}
+
 /// What follows the blanks at the front.
 #[tactic(auto, unfolding(crate::specs::Octets::after_blanks))]
 pub(crate) fn after_blanks(text: &str) -> &str
     ensures after { result.now ≡ after_blanks text.now }
 {
     let (_, after) = text.split_at(blank_octets(text.as_bytes()));
+    after
+}
+
+/// The text begins with something other than `<`.
+pub(crate) fn begins_text(text: &str) -> bool
+    ensures begins { result ≡ begins_text text.now }
+{
+    text.as_bytes().first().is_some_and(|octet| *octet != b'<')
+}
+
+fn text_octets(octets: &[u8]) -> usize
+    ensures count { result ≡ length (take_while is_text_octet octets.now) }
+{
+    octets
+        .iter()
+        .take_while(|octet| **octet != b'<')
+        .count()
+}
+
+/// What follows the longest front without `<`.
+pub(crate) fn after_text(text: &str) -> &str
+    ensures after { result.now ≡ drop_while is_text_octet text.now }
+{
+    let (_, after) = text.split_at(text_octets(text.as_bytes()));
     after
 }
 

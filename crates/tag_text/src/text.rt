@@ -1,7 +1,9 @@
 ghost use Rattle.std.specs.Prelude.{◌≡◌, ◌≢◌, ◌≤◌, ℕ, List, [], ◌∷◌, ◌++◌, length, slice_get, MatchOption, IfNone, IfOk, OnErr, OnOk, All};
 ghost use Rattle.std.specs.Option.{option_map};
+ghost use Rattle.std.specs.List.{list_any};
+ghost use Rattle.std.specs.Str.{bytes_eq};
 ghost use Rattle.std.specs.String.{string_bytes};
-ghost use Rattle.tag_text.specs.Attributes.{value_named};
+ghost use Rattle.tag_text.specs.Attributes.{value_named, are_distinct};
 
 use knx_base::NoMemory;
 use std::alloc::Global;
@@ -69,6 +71,13 @@ impl Attributes {
         Ok(())
     }
 
+    /// No two attributes have one name.
+    pub(crate) fn are_distinct(&self) -> bool
+        ensures distinct { result ≡ are_distinct self.now }
+    {
+        are_distinct(&self.pairs)
+    }
+
     fn named(&self, name: &str) -> Option<&str>
         ensures value { option_map (λ value. value.now) result ≡ value_named self.now name.now }
     {
@@ -99,4 +108,23 @@ impl Attributes {
         let (name, value) = self.pairs.get(index)?;
         Some((name.as_str(), value.as_str()))
     }
+}
+
+fn are_distinct(pairs: &[(Text, Text)]) -> bool
+    ensures distinct { result ≡ are_distinct pairs.now }
+{
+    let mut rest = pairs;
+    'pairs: while let [first, others @ ..] = rest {
+        if is_named(others, first.0.as_str()) {
+            return false;
+        }
+        rest = others;
+    }
+    true
+}
+
+fn is_named(pairs: &[(Text, Text)], name: &str) -> bool
+    ensures named { result ≡ list_any (λ attribute. bytes_eq attribute.0 name.now) pairs.now }
+{
+    pairs.iter().any(|pair| pair.0.as_str() == name)
 }
