@@ -2,3 +2,5 @@ mod OctetLemmas
 mod AttributeLemmas
 mod ValueLemmas
 mod PieceLemmas
+mod OpenLemmas
+mod DocumentLemmas

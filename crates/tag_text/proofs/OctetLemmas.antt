@@ -201,3 +201,39 @@ text_cut text n is = (omega (arith, is, prefix_len-le-length is_text_octet text)
 
 pub cut_after_text : (text : List ℕ) → IsCharBoundary text (length (take_while is_text_octet text))
 cut_after_text text = text_cut text _ (length-prefix_len is_text_octet text)
+
+-- the first occurrence of a mark: what stands before it, and that the mark stands at no place of that
+pub record HasFirstMark (mark text after : List ℕ) : Type 0 where
+  pub front : List ℕ
+  pub splits : text ≡ front ++ (mark ++ after)
+  pub first : (k : ℕ) → k < length front → LacksTextAt mark text k
+
+lacks_from : (mark text : List ℕ) → starts_with nat_eq text mark ≡ false → LacksTextAt mark text 0
+lacks_from mark text is rest same = cc (is, begins mark text rest same)
+
+later_lacks : (mark : List ℕ) (octet : ℕ) (text front : List ℕ) → starts_with nat_eq (octet ∷ text) mark ≡ false
+    → ((k : ℕ) → k < length front → LacksTextAt mark text k) → (k : ℕ) → k < suc (length front) → LacksTextAt mark (octet ∷ text) k
+later_lacks mark octet text front is first zero below = lacks_from mark (octet ∷ text) is
+later_lacks mark octet text front is first (suc k) below = first k (omega (arith, below))
+
+first_mark_case : (mark : List ℕ) (octet : ℕ) (text after : List ℕ) (b : Bool) → starts_with nat_eq (octet ∷ text) mark ≡ b
+    → cond b (Some (drop (length mark) (octet ∷ text))) (after_first_mark mark text) ≡ Some after
+    → (after_first_mark mark text ≡ Some after → HasFirstMark mark text after) → HasFirstMark mark (octet ∷ text) after
+first_mark_case mark octet text after true is found later = record {
+  front = [];
+  splits = mark_splits mark (octet ∷ text) after true is found;
+  first = λ k below. absurd (omega (arith, below));
+}
+first_mark_case mark octet text after false is found later =
+    let has = later found in
+    record {
+      front = octet ∷ has.front;
+      splits = ap (λ (others : List ℕ). octet ∷ others) has.splits;
+      first = later_lacks mark octet text has.front is has.first;
+    }
+
+pub has_first_mark : (mark text after : List ℕ) → after_first_mark mark text ≡ Some after → HasFirstMark mark text after
+unfolding after_first_mark
+has_first_mark mark [] after found = cc found
+has_first_mark mark (octet ∷ text) after found =
+    first_mark_case mark octet text after (starts_with nat_eq (octet ∷ text) mark) refl found (has_first_mark mark text after)

@@ -1,14 +1,15 @@
 -- What is read of a text leaves less of it.
-use Rattle.std.proofs.Common.{◌≡◌, ◌≢◌, ℕ, zero, suc, ◌+◌, ◌<◌, ◌≤◌, Bool, true, false, cond, not, List, [], ◌∷◌, ◌++◌, length, take, drop, codes, Option, Some, None, arith, ap, ◌∙◌, sym, refl, subst}
+use Rattle.std.proofs.Common.{◌≡◌, ◌≢◌, ℕ, zero, suc, ◌+◌, ◌<◌, ◌≤◌, Bool, true, false, cond, not, ◌⊎◌, inl, inr, List, [], ◌∷◌, ◌++◌, length, take, drop, codes, Option, Some, None, arith, ap, ◌∙◌, sym, refl, subst}
 use Rattle.std.specs.Option.{option_map, option_and_then, option_map_or}
 use Rattle.std.specs.List.{take_while, prefix_len, before_first, after_first, list_any, All}
-use Rattle.std.proofs.lemmas.List.{length-append, take-append-drop, append_assoc, append-nil}
+use Rattle.std.proofs.lemmas.List.{length-append, length-drop, take-append-drop, append_assoc, append-nil}
 use Rattle.std.proofs.lemmas.List.Folds.{length-prefix_len}
 use Rattle.tag_text.specs.Octets.{is_blank, is_octet, is_name_octet, begins_name, drop_while, after_blanks, after_mark, after_first_mark, cut_at, name_at}
 use Rattle.tag_text.specs.Values.{value_of, quoted_at, value_at, is_quote}
-use Rattle.tag_text.specs.Pieces.{◌>>=◌, or_else, begins_blank, attribute_at, with_first, attributes_within, attributes_at}
+use Rattle.tag_text.specs.Pieces.{Piece, Start, Empty, End, Skipped, ◌>>=◌, or_else, begins_blank, begins_text, is_text_octet, attribute_at, with_first, attributes_within, attributes_at, tag_end_at, tag_of, tag_with, start_tag_at, end_tag_at, skipped, instruction_at, comment_at, text_at, piece_at}
+use Rattle.tag_text.specs.Attributes.{are_distinct}
 use Rattle.tag_text.specs.Reading.{with_firsts}
-use Rattle.tag_text.proofs.OctetLemmas.{after_mark_splits, cut_is}
+use Rattle.tag_text.proofs.OctetLemmas.{after_mark_splits, cut_is, has_first_mark}
 
 pub bind_some : {A B : Type 0} (o : Option A) (f : A → Option B) (y : B) → (o >>= f) ≡ Some y → (x : A) × (o ≡ Some x) × (f x ≡ Some y)
 bind_some None f y found = cc found
@@ -204,3 +205,134 @@ pub all_attributes : (attributes : List (List ℕ × List ℕ)) (text : List ℕ
 all_attributes attributes text whole none all =
     ap (λ (first : List (List ℕ × List ℕ)). (first, text)) (sym (append-nil attributes))
     ∙ ap (λ (found : List (List ℕ × List ℕ) × List ℕ). with_firsts attributes found) (sym (no_attribute text (sym none))) ∙ all
+
+pub either_some : {A : Type 0} (o other : Option A) (y : A) → or_else o other ≡ Some y → (o ≡ Some y) ⊎ (other ≡ Some y)
+either_some None other y found = inr found
+either_some (Some x) other y found = inl found
+
+pub skipped_some : (o : Option (List ℕ)) (found : Piece × List ℕ) → skipped o ≡ Some found → (o ≡ Some found.1) × (found ≡ (Skipped, found.1))
+skipped_some None found is = cc is
+skipped_some (Some rest) found is =
+    let whole : Piece × List ℕ = (Skipped, rest) in
+    let same : whole ≡ found = cc is in
+    let rest_is : rest ≡ found.1 = ap (λ (pair : Piece × List ℕ). pair.1) same in
+    (ap Some rest_is, sym same ∙ ap (λ (others : List ℕ). (Skipped, others)) rest_is)
+
+marked_less : (opening closing text after : List ℕ) → 0 < length opening → (after_mark opening text >>= after_first_mark closing) ≡ Some after → length after < length text
+marked_less opening closing text after some found =
+    let opened = bind_some (after_mark opening text) (after_first_mark closing) after found in
+    let closed = has_first_mark closing opened.0 after opened.2 in
+    omega (arith, some, after_mark_less opening text opened.0 opened.1, ap length closed.splits, length-append closed.front (closing ++ after), length-append closing after)
+
+instruction_less : (text after : List ℕ) → instruction_at text ≡ Some after → length after < length text
+unfolding instruction_at
+instruction_less text after found = marked_less (codes "<?") (codes "?>") text after (omega arith) found
+
+comment_less : (text after : List ℕ) → comment_at text ≡ Some after → length after < length text
+unfolding comment_at
+comment_less text after found = marked_less (codes "<!--") (codes "-->") text after (omega arith) found
+
+while_less : (test : ℕ → Bool) (octet : ℕ) (text : List ℕ) → test octet ≡ true → length (drop_while test (octet ∷ text)) < length (octet ∷ text)
+while_less test octet text passes =
+    let some : prefix_len test (octet ∷ text) ≡ 1 + prefix_len test text = ap (λ (b : Bool). cond b (1 + prefix_len test text) 0) passes in
+    omega (arith, some, length-prefix_len test (octet ∷ text), length-drop (length (take_while test (octet ∷ text))) (octet ∷ text))
+
+text_less : (inside : Bool) (text after : List ℕ) → text_at inside text ≡ Some after → length after < length text
+unfolding text_at after_blanks
+text_less true [] after found = cc found
+text_less true (octet ∷ text) after found =
+    let parts = test_some (is_text_octet octet) (Some (drop_while is_text_octet (octet ∷ text))) after found in
+    omega (arith, while_less is_text_octet octet text parts.0, (let same : drop_while is_text_octet (octet ∷ text) ≡ after = cc parts.1 in ap length same))
+text_less false [] after found = cc found
+text_less false (octet ∷ text) after found =
+    let parts = test_some (is_blank octet) (Some (drop_while is_blank (octet ∷ text))) after found in
+    omega (arith, while_less is_blank octet text parts.0, (let same : drop_while is_blank (octet ∷ text) ≡ after = cc parts.1 in ap length same))
+
+attributes_case_less : (n : ℕ) (text : List ℕ) (o : Option ((List ℕ × List ℕ) × List ℕ))
+    → ((found : (List ℕ × List ℕ) × List ℕ) → o ≡ Some found → length (attributes_within n found.1).1 ≤ length text)
+    → length (option_map_or (λ found. with_first found.0 (attributes_within n found.1)) o ([], text)).1 ≤ length text
+attributes_case_less n text None less = omega arith
+attributes_case_less n text (Some found) less = less found refl
+
+attributes_within_less : (n : ℕ) (text : List ℕ) → length (attributes_within n text).1 ≤ length text
+attributes_within_less zero text = omega arith
+attributes_within_less (suc n) text =
+    attributes_case_less n text (attribute_at text) (λ found is. omega (arith, attributes_within_less n found.1, attribute_less text found is))
+
+attributes_less : (text : List ℕ) → length (attributes_at text).1 ≤ length text
+unfolding attributes_at
+attributes_less text = attributes_within_less (length text) text
+
+end_side : (b : Bool) (mark text : List ℕ) (end : Bool × List ℕ) → option_map (λ after. (b, after)) (after_mark mark text) ≡ Some end
+    → (end.0 ≡ b) × (after_mark mark text ≡ Some end.1)
+end_side b mark text end found =
+    let after = map_some (λ (after : List ℕ). (b, after)) (after_mark mark text) end found in
+    let whole : Bool × List ℕ = (b, after.0) in
+    let same : whole ≡ end = after.2 in
+    let rest : after.0 ≡ end.1 = ap (λ (pair : Bool × List ℕ). pair.1) same in
+    (sym (ap (λ (pair : Bool × List ℕ). pair.0) same), after.1 ∙ ap Some rest)
+
+-- the end of a tag
+pub record HasTagEnd (text : List ℕ) (end : Bool × List ℕ) : Type 0 where
+  pub is : ((end.0 ≡ true) × (after_mark (codes "/>") (after_blanks text) ≡ Some end.1)) ⊎ ((end.0 ≡ false) × (after_mark (codes ">") (after_blanks text) ≡ Some end.1))
+  pub less : length end.1 < length text
+
+pub has_tag_end : (text : List ℕ) (end : Bool × List ℕ) → tag_end_at text ≡ Some end → HasTagEnd text end
+unfolding tag_end_at
+has_tag_end text end found =
+    elim (either_some (option_map (λ (after : List ℕ). (true, after)) (after_mark (codes "/>") (after_blanks text)))
+    (option_map (λ (after : List ℕ). (false, after)) (after_mark (codes ">") (after_blanks text))) end found) [
+      inl slash ↦ (let side = end_side true (codes "/>") (after_blanks text) end slash in
+          record { is = inl side; less = omega (arith, after_blanks_less text, after_mark_less (codes "/>") (after_blanks text) end.1 side.1) })
+    | inr plain ↦ (let side = end_side false (codes ">") (after_blanks text) end plain in
+          record { is = inr side; less = omega (arith, after_blanks_less text, after_mark_less (codes ">") (after_blanks text) end.1 side.1) })
+    ]
+
+tag_with_less : (name : List ℕ) (attributes : List (List ℕ × List ℕ)) (rest : List ℕ) (found : Piece × List ℕ) → tag_with name attributes rest ≡ Some found
+    → length found.1 < length rest
+tag_with_less name attributes rest found is =
+    let last : Bool × List ℕ → Option (Piece × List ℕ) = λ end. cond (are_distinct attributes) (Some (tag_of end.0 name attributes, end.1)) None in
+    let end = bind_some (tag_end_at rest) last found is in
+    let tag : Piece × List ℕ = (tag_of end.0.0 name attributes, end.0.1) in
+    let parts = test_some (are_distinct attributes) (Some tag) found end.2 in
+    let same : tag ≡ found = cc parts.1 in
+    omega (arith, (has_tag_end rest end.0 end.1).less, ap (λ (pair : Piece × List ℕ). length pair.1) same)
+
+start_tag_less : (text : List ℕ) (found : Piece × List ℕ) → start_tag_at text ≡ Some found → length found.1 < length text
+unfolding start_tag_at
+start_tag_less text found is =
+    let last : List ℕ × List ℕ → Option (Piece × List ℕ) = λ name. tag_with name.0 (attributes_at name.1).0 (attributes_at name.1).1 in
+    let opened = bind_some (after_mark (codes "<") text) (λ (opened : List ℕ). name_at opened >>= last) found is in
+    let name = bind_some (name_at opened.0) last found opened.2 in
+    omega (arith, after_mark_less (codes "<") text opened.0 opened.1, (has_name opened.0 name.0 name.1).less, attributes_less name.0.1,
+    tag_with_less name.0.0 (attributes_at name.0.1).0 (attributes_at name.0.1).1 found name.2)
+
+end_tag_less : (text : List ℕ) (found : Piece × List ℕ) → end_tag_at text ≡ Some found → length found.1 < length text
+unfolding end_tag_at
+end_tag_less text found is =
+    let third : List ℕ × List ℕ → List ℕ → Option (Piece × List ℕ) = λ name after. Some (End name.0, after) in
+    let second : List ℕ × List ℕ → Option (Piece × List ℕ) = λ name. after_mark (codes ">") (after_blanks name.1) >>= third name in
+    let opened = bind_some (after_mark (codes "</") text) (λ (opened : List ℕ). name_at opened >>= second) found is in
+    let name = bind_some (name_at opened.0) second found opened.2 in
+    let after = bind_some (after_mark (codes ">") (after_blanks name.0.1)) (third name.0) found name.2 in
+    let tag : Piece × List ℕ = (End name.0.0, after.0) in
+    let same : tag ≡ found = cc after.2 in
+    omega (arith, after_mark_less (codes "</") text opened.0 opened.1, (has_name opened.0 name.0 name.1).less, after_blanks_less name.0.1,
+    after_mark_less (codes ">") (after_blanks name.0.1) after.0 after.1, ap (λ (pair : Piece × List ℕ). length pair.1) same)
+
+pub piece_less : (inside : Bool) (text : List ℕ) (found : Piece × List ℕ) → piece_at inside text ≡ Some found → length found.1 < length text
+unfolding piece_at
+piece_less inside text found is =
+    elim (either_some (skipped (instruction_at text)) _ found is) [
+      inl instruction ↦ instruction_less text found.1 (skipped_some (instruction_at text) found instruction).0
+    | inr others ↦ elim (either_some (skipped (comment_at text)) _ found others) [
+        inl comment ↦ comment_less text found.1 (skipped_some (comment_at text) found comment).0
+      | inr others ↦ elim (either_some (skipped (text_at inside text)) _ found others) [
+          inl octets ↦ text_less inside text found.1 (skipped_some (text_at inside text) found octets).0
+        | inr tags ↦ elim (either_some (end_tag_at text) (start_tag_at text) found tags) [
+            inl end ↦ end_tag_less text found end
+          | inr start ↦ start_tag_less text found start
+          ]
+        ]
+      ]
+    ]

@@ -2,5 +2,8 @@ pub mod Octets
 pub mod Values
 pub mod Pieces
 pub mod PieceView
+pub mod Document
+pub mod Scan
 pub mod Attributes
 pub mod Reading
+pub mod Reader

@@ -5,8 +5,14 @@
 #![tactic(auto)]
 
 mod octets;
+mod open;
 mod piece;
+mod reader;
+mod scan;
+mod tag;
 mod text;
 mod value;
 
+pub use reader::TagReader;
+pub use tag::{Tag, TagFault};
 pub use text::{Attributes, Text};

@@ -1,0 +1,60 @@
+-- What a scan does, in the words of documents.
+use Rattle.std.specs.Prelude.{◌≡◌, ℕ, ◌<◌, true, length, List, [], ◌∷◌, ◌++◌, Option, Some, None, Result, Ok, Err}
+use Rattle.tag_text.specs.Document.{Left, State, Step, Goes, Stops, begins}
+use Rattle.tag_text.specs.declared.scan.Scan.{Scan}
+use Rattle.tag_text.specs.declared.scan.Given.{Given}
+use Rattle.tag_text.specs.declared.scan.Given.TheVariants as given
+use Rattle.tag_text.specs.declared.tag.Tag.{Tag}
+use Rattle.tag_text.specs.declared.tag.Tag.TheVariants as tag
+use Rattle.tag_text.specs.declared.tag.TagFault.{TagFault}
+use Rattle.tag_text.specs.declared.tag.TagFault.TheVariants as fault
+
+abbrev pub state_of : Scan → State
+state_of s = record { total = s.total; opened = s.open; begun = s.begun; rest = s.rest.now }
+
+-- a step that answers so: it leads to the new state, or stops and stays; without memory it stays
+abbrev pub Answers : Step → State → State → Result (Option Given) TagFault → Type 0
+Answers step old new (Ok None) = step ≡ Goes [] new
+Answers step old new (Ok (Some (given.Start name attributes place))) = step ≡ Goes (tag.Start name attributes place ∷ []) new
+Answers step old new (Ok (Some (given.Empty name attributes place))) =
+    step ≡ Goes (tag.Start name attributes place ∷ tag.End place ∷ []) new
+Answers step old new (Ok (Some (given.End place))) = step ≡ Goes (tag.End place ∷ []) new
+Answers step old new (Ok (Some given.Finish)) = (step ≡ Stops None) × (new ≡ old)
+Answers step old new (Err fault.NoMemory) = new ≡ old
+Answers step old new (Err (fault.Bad place)) = (step ≡ Stops (Some (fault.Bad place))) × (new ≡ old)
+Answers step old new (Err (fault.Deep place)) = (step ≡ Stops (Some (fault.Deep place))) × (new ≡ old)
+Answers step old new (Err (fault.Utf8 place)) = ⊥
+
+-- an element is begun, or why not: what that says of every tag that would begin one here
+abbrev pub BeginsElement : State → State → List ℕ → Result (List ℕ) TagFault → Type 0
+BeginsElement old new name (Ok text) = (text ≡ name)
+    × (new ≡ record { total = old.total; opened = old.opened; begun = true; rest = old.rest })
+    × ((tags : List Tag) (opened : List (List ℕ)) (after : List ℕ) → begins old tags opened after
+        ≡ Goes tags (record { total = old.total; opened = opened; begun = true; rest = after }))
+    × (length old.opened < 32)
+BeginsElement old new name (Err fault.NoMemory) = new ≡ old
+BeginsElement old new name (Err (fault.Bad place)) = (new ≡ old)
+    × ((tags : List Tag) (opened : List (List ℕ)) (after : List ℕ) → begins old tags opened after ≡ Stops (Some (fault.Bad place)))
+BeginsElement old new name (Err (fault.Deep place)) = (new ≡ old)
+    × ((tags : List Tag) (opened : List (List ℕ)) (after : List ℕ) → begins old tags opened after ≡ Stops (Some (fault.Deep place)))
+BeginsElement old new name (Err (fault.Utf8 place)) = ⊥
+
+-- these tags, and then what is left later
+abbrev pub after_tags : List Tag → Left → Left
+after_tags tags later = record { tags = tags ++ later.tags; fault = later.fault }
+
+-- nothing but this
+abbrev pub only : Option TagFault → Left
+only fault = record { tags = []; fault = fault }
+
+-- what was left before is what is given and what is left after
+abbrev pub GivesLeft : Left → Left → Result Given TagFault → Type 0
+GivesLeft old new (Ok (given.Start name attributes place)) = old ≡ after_tags (tag.Start name attributes place ∷ []) new
+GivesLeft old new (Ok (given.Empty name attributes place)) =
+    old ≡ after_tags (tag.Start name attributes place ∷ tag.End place ∷ []) new
+GivesLeft old new (Ok (given.End place)) = old ≡ after_tags (tag.End place ∷ []) new
+GivesLeft old new (Ok given.Finish) = (old ≡ only None) × (new ≡ old)
+GivesLeft old new (Err fault.NoMemory) = new ≡ old
+GivesLeft old new (Err (fault.Bad place)) = (old ≡ only (Some (fault.Bad place))) × (new ≡ old)
+GivesLeft old new (Err (fault.Deep place)) = (old ≡ only (Some (fault.Deep place))) × (new ≡ old)
+GivesLeft old new (Err (fault.Utf8 place)) = ⊥
