@@ -4,3 +4,4 @@ mod ValueLemmas
 mod PieceLemmas
 mod OpenLemmas
 mod DocumentLemmas
+mod ScanLemmas

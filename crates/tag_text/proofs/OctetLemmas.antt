@@ -26,8 +26,10 @@ blank_is_ascii : (octet : ℕ) → is_blank octet ≡ true → octet < 128
 blank_is_ascii octet blank = grind (arith, nat_tests)
 
 names_cut : (text : List ℕ) (n : ℕ) → n ≡ prefix_len is_name_octet text → IsCharBoundary text n
-names_cut text n is = (omega (arith, is, prefix_len-le-length is_name_octet text),
-    λ inside high. absurd (omega (arith, high, other_is_ascii (get_or text n 0) (rw is (prefix_len_stops is_name_octet text 0 (omega (arith, is, inside)))))))
+names_cut text n is = (
+  omega (arith, is, prefix_len-le-length is_name_octet text),
+  λ inside high. absurd (omega (arith, high, other_is_ascii (get_or text n 0) (rw is (prefix_len_stops is_name_octet text 0 (omega (arith, is, inside)))))),
+)
 
 pub cut_after_name : (text : List ℕ) → IsCharBoundary text (length (take_while is_name_octet text))
 cut_after_name text = names_cut text _ (length-prefix_len is_name_octet text)
@@ -133,7 +135,7 @@ within_test : (octet : ℕ) (text : List ℕ) (b : Bool) → nat_lt (position_or
 within_test octet text true is any = ltb-true _ _ is
 within_test octet text false is any =
     let none : position_or_len (is_octet octet) text ≡ length text =
-        omega (arith, prefix_len-le-length (λ (x : ℕ). not (is_octet octet x)) text, ltb-false _ _ is) in
+    omega (arith, prefix_len-le-length (λ (x : ℕ). not (is_octet octet x)) text, ltb-false _ _ is) in
     cc (any, list_any_none (is_octet octet) text (none_within octet text none))
 
 within_any : (octet : ℕ) (text : List ℕ) → list_any (is_octet octet) text ≡ true → position_or_len (is_octet octet) text < length text
@@ -164,7 +166,7 @@ cut_test octet text front rest true is found =
     let same_rest : after_first (is_octet octet) text ≡ rest = ap (λ (pair : List ℕ × List ℕ). pair.1) same in
     let place : ℕ = position_or_len (is_octet octet) text in
     let here_is : get_or text place 0 ≡ octet =
-        eqb-true _ _ (by_not (is_octet octet (get_or text place 0)) (prefix_len_stops (λ (x : ℕ). not (is_octet octet x)) text 0 within)) in
+    eqb-true _ _ (by_not (is_octet octet (get_or text place 0)) (prefix_len_stops (λ (x : ℕ). not (is_octet octet x)) text 0 within)) in
     record {
       splits =
           sym (take-append-drop place text)
@@ -196,8 +198,10 @@ open_is_ascii : (octet : ℕ) → is_text_octet octet ≡ false → octet < 128
 open_is_ascii octet stops = grind (arith, nat_tests)
 
 text_cut : (text : List ℕ) (n : ℕ) → n ≡ prefix_len is_text_octet text → IsCharBoundary text n
-text_cut text n is = (omega (arith, is, prefix_len-le-length is_text_octet text),
-    λ inside high. absurd (omega (arith, high, open_is_ascii (get_or text n 0) (rw is (prefix_len_stops is_text_octet text 0 (omega (arith, is, inside)))))))
+text_cut text n is = (
+  omega (arith, is, prefix_len-le-length is_text_octet text),
+  λ inside high. absurd (omega (arith, high, open_is_ascii (get_or text n 0) (rw is (prefix_len_stops is_text_octet text 0 (omega (arith, is, inside)))))),
+)
 
 pub cut_after_text : (text : List ℕ) → IsCharBoundary text (length (take_while is_text_octet text))
 cut_after_text text = text_cut text _ (length-prefix_len is_text_octet text)

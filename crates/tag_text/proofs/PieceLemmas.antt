@@ -147,8 +147,15 @@ has_attribute text attribute found =
 pub attribute_less : (text : List ℕ) (attribute : (List ℕ × List ℕ) × List ℕ) → attribute_at text ≡ Some attribute → length attribute.1 < length text
 attribute_less text attribute found =
     let has = has_attribute text attribute found in
-    omega (arith, after_blanks_less text, has.name.less, after_blanks_less has.after_name, after_mark_less (codes "=") (after_blanks has.after_name) has.after_equals has.equals,
-    after_blanks_less has.after_equals, has.value.quoted.less)
+    omega (
+      arith,
+      after_blanks_less text,
+      has.name.less,
+      after_blanks_less has.after_name,
+      after_mark_less (codes "=") (after_blanks has.after_name) has.after_equals has.equals,
+      after_blanks_less has.after_equals,
+      has.value.quoted.less,
+    )
 
 nothing_has_none : attribute_at [] ≡ None
 unfolding attribute_at
@@ -282,9 +289,9 @@ unfolding tag_end_at
 has_tag_end text end found =
     elim (either_some (option_map (λ (after : List ℕ). (true, after)) (after_mark (codes "/>") (after_blanks text)))
     (option_map (λ (after : List ℕ). (false, after)) (after_mark (codes ">") (after_blanks text))) end found) [
-      inl slash ↦ (let side = end_side true (codes "/>") (after_blanks text) end slash in
+      | inl slash ↦ (let side = end_side true (codes "/>") (after_blanks text) end slash in
           record { is = inl side; less = omega (arith, after_blanks_less text, after_mark_less (codes "/>") (after_blanks text) end.1 side.1) })
-    | inr plain ↦ (let side = end_side false (codes ">") (after_blanks text) end plain in
+      | inr plain ↦ (let side = end_side false (codes ">") (after_blanks text) end plain in
           record { is = inr side; less = omega (arith, after_blanks_less text, after_mark_less (codes ">") (after_blanks text) end.1 side.1) })
     ]
 
@@ -304,8 +311,13 @@ start_tag_less text found is =
     let last : List ℕ × List ℕ → Option (Piece × List ℕ) = λ name. tag_with name.0 (attributes_at name.1).0 (attributes_at name.1).1 in
     let opened = bind_some (after_mark (codes "<") text) (λ (opened : List ℕ). name_at opened >>= last) found is in
     let name = bind_some (name_at opened.0) last found opened.2 in
-    omega (arith, after_mark_less (codes "<") text opened.0 opened.1, (has_name opened.0 name.0 name.1).less, attributes_less name.0.1,
-    tag_with_less name.0.0 (attributes_at name.0.1).0 (attributes_at name.0.1).1 found name.2)
+    omega (
+      arith,
+      after_mark_less (codes "<") text opened.0 opened.1,
+      (has_name opened.0 name.0 name.1).less,
+      attributes_less name.0.1,
+      tag_with_less name.0.0 (attributes_at name.0.1).0 (attributes_at name.0.1).1 found name.2,
+    )
 
 end_tag_less : (text : List ℕ) (found : Piece × List ℕ) → end_tag_at text ≡ Some found → length found.1 < length text
 unfolding end_tag_at
@@ -317,21 +329,27 @@ end_tag_less text found is =
     let after = bind_some (after_mark (codes ">") (after_blanks name.0.1)) (third name.0) found name.2 in
     let tag : Piece × List ℕ = (End name.0.0, after.0) in
     let same : tag ≡ found = cc after.2 in
-    omega (arith, after_mark_less (codes "</") text opened.0 opened.1, (has_name opened.0 name.0 name.1).less, after_blanks_less name.0.1,
-    after_mark_less (codes ">") (after_blanks name.0.1) after.0 after.1, ap (λ (pair : Piece × List ℕ). length pair.1) same)
+    omega (
+      arith,
+      after_mark_less (codes "</") text opened.0 opened.1,
+      (has_name opened.0 name.0 name.1).less,
+      after_blanks_less name.0.1,
+      after_mark_less (codes ">") (after_blanks name.0.1) after.0 after.1,
+      ap (λ (pair : Piece × List ℕ). length pair.1) same,
+    )
 
 pub piece_less : (inside : Bool) (text : List ℕ) (found : Piece × List ℕ) → piece_at inside text ≡ Some found → length found.1 < length text
 unfolding piece_at
 piece_less inside text found is =
     elim (either_some (skipped (instruction_at text)) _ found is) [
-      inl instruction ↦ instruction_less text found.1 (skipped_some (instruction_at text) found instruction).0
-    | inr others ↦ elim (either_some (skipped (comment_at text)) _ found others) [
-        inl comment ↦ comment_less text found.1 (skipped_some (comment_at text) found comment).0
-      | inr others ↦ elim (either_some (skipped (text_at inside text)) _ found others) [
-          inl octets ↦ text_less inside text found.1 (skipped_some (text_at inside text) found octets).0
-        | inr tags ↦ elim (either_some (end_tag_at text) (start_tag_at text) found tags) [
-            inl end ↦ end_tag_less text found end
-          | inr start ↦ start_tag_less text found start
+      | inl instruction ↦ instruction_less text found.1 (skipped_some (instruction_at text) found instruction).0
+      | inr others ↦ elim (either_some (skipped (comment_at text)) _ found others) [
+        | inl comment ↦ comment_less text found.1 (skipped_some (comment_at text) found comment).0
+        | inr others ↦ elim (either_some (skipped (text_at inside text)) _ found others) [
+          | inl octets ↦ text_less inside text found.1 (skipped_some (text_at inside text) found octets).0
+          | inr tags ↦ elim (either_some (end_tag_at text) (start_tag_at text) found tags) [
+            | inl end ↦ end_tag_less text found end
+            | inr start ↦ start_tag_less text found start
           ]
         ]
       ]

@@ -89,8 +89,10 @@ spaced_front (octet ∷ text) = front_step octet text (is_break octet) refl (spa
 
 -- where the plain octets end, the text may be cut
 plain_cut : (text : List ℕ) (n : ℕ) → n ≡ prefix_len is_plain text → IsCharBoundary text n
-plain_cut text n is = (omega (arith, is, prefix_len-le-length is_plain text),
-    λ inside high. absurd (omega (arith, high, break_is_ascii (get_or text n 0) (by_not (is_break (get_or text n 0)) (rw is (prefix_len_stops is_plain text 0 (omega (arith, is, inside))))))))
+plain_cut text n is = (
+  omega (arith, is, prefix_len-le-length is_plain text),
+  λ inside high. absurd (omega (arith, high, break_is_ascii (get_or text n 0) (by_not (is_break (get_or text n 0)) (rw is (prefix_len_stops is_plain text 0 (omega (arith, is, inside))))))),
+)
 
 pub cut_after_plain : (text : List ℕ) → IsCharBoundary text (length (take_while (λ octet. not (is_break octet)) text))
 cut_after_plain text = plain_cut text _ (length-prefix_len is_plain text)

@@ -64,8 +64,8 @@ abbrev pub begins : State → List Tag → List (List ℕ) → List ℕ → Step
 begins s tags opened after =
     if may_begin s
     then (if has_room s
-        then Goes tags (record { total = s.total; opened = opened; begun = true; rest = after })
-        else Stops (Some (fault.Deep (place_of s))))
+    then Goes tags (record { total = s.total; opened = opened; begun = true; rest = after })
+    else Stops (Some (fault.Deep (place_of s))))
     else bad s
 
 -- the innermost of the open elements ends, if it has this name

@@ -28,10 +28,10 @@ begins_blank (octet ∷ text) = is_blank octet
 -- an attribute: blanks, a name, `=` and a value; and what follows
 unfoldable pub attribute_at : List ℕ → Option ((List ℕ × List ℕ) × List ℕ)
 attribute_at text = if begins_blank text then (do
-    name ← name_at (after_blanks text)
-    rest ← after_mark (codes "=") (after_blanks name.1)
-    value ← value_at (after_blanks rest)
-    Some ((name.0, value.0), value.1)) else None
+  name ← name_at (after_blanks text)
+  rest ← after_mark (codes "=") (after_blanks name.1)
+  value ← value_at (after_blanks rest)
+  Some ((name.0, value.0), value.1)) else None
 
 abbrev pub with_first : {A B : Type 0} → A → List A × B → List A × B
 with_first x more = (x ∷ more.0, more.1)

@@ -30,7 +30,7 @@ abbrev pub BeginsElement : State → State → List ℕ → Result (List ℕ) Ta
 BeginsElement old new name (Ok text) = (text ≡ name)
     × (new ≡ record { total = old.total; opened = old.opened; begun = true; rest = old.rest })
     × ((tags : List Tag) (opened : List (List ℕ)) (after : List ℕ) → begins old tags opened after
-        ≡ Goes tags (record { total = old.total; opened = opened; begun = true; rest = after }))
+    ≡ Goes tags (record { total = old.total; opened = opened; begun = true; rest = after }))
     × (length old.opened < 32)
 BeginsElement old new name (Err fault.NoMemory) = new ≡ old
 BeginsElement old new name (Err (fault.Bad place)) = (new ≡ old)

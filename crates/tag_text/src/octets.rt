@@ -27,10 +27,7 @@ fn is_name_octet(octet: u8) -> bool
 fn blank_octets(octets: &[u8]) -> usize
     ensures count { result ≡ length (take_while is_blank octets.now) }
 {
-    octets
-        .iter()
-        .take_while(|octet| is_blank(**octet))
-        .count()
+    octets.iter().take_while(|octet| is_blank(**octet)).count()
 }
 
 fn name_octets(octets: &[u8]) -> usize
@@ -75,10 +72,7 @@ pub(crate) fn begins_text(text: &str) -> bool
 fn text_octets(octets: &[u8]) -> usize
     ensures count { result ≡ length (take_while is_text_octet octets.now) }
 {
-    octets
-        .iter()
-        .take_while(|octet| **octet != b'<')
-        .count()
+    octets.iter().take_while(|octet| **octet != b'<').count()
 }
 
 /// What follows the longest front without `<`.

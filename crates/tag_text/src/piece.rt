@@ -16,18 +16,23 @@ use std::alloc::Global;
 /// What one piece says.
 #[derive(Debug, Drop)]
 pub(crate) enum Piece<'a> {
-    Start { name: &'a str, attributes: Attributes },
-    Empty { name: &'a str, attributes: Attributes },
-    End { name: &'a str },
+    Start {
+        name: &'a str,
+        attributes: Attributes,
+    },
+    Empty {
+        name: &'a str,
+        attributes: Attributes,
+    },
+    End {
+        name: &'a str,
+    },
     Skipped,
 }
 
 // An attribute, with the blanks before it, and what follows.
 #[tactic(auto, unfolding(crate::specs::Pieces::attribute_at))]
-fn attribute_at(
-    alloc: Global,
-    text: &str,
-) -> Result<Option<(Text, Text, &str)>, NoMemory>
+fn attribute_at(alloc: Global, text: &str) -> Result<Option<(Text, Text, &str)>, NoMemory>
     ensures attribute { IfOk result (λ found. option_map (λ parts. ((parts.0, parts.1), parts.2.now)) found ≡ attribute_at text.now) }
 {
     if !begins_blank(text) {
@@ -163,7 +168,11 @@ fn text_at(inside: bool, text: &str) -> Option<&str>
     ensures after { option_map (λ after. after.now) result ≡ text_at inside text.now }
 {
     if inside {
-        if begins_text(text) { Some(after_text(text)) } else { None }
+        if begins_text(text) {
+            Some(after_text(text))
+        } else {
+            None
+        }
     } else if begins_blank(text) {
         Some(after_blanks(text))
     } else {

@@ -63,20 +63,24 @@ impl<'a> TagReader<'a> {
             return Ok(Tag::End { place });
         }
         match self.scan.next(alloc) {
-            Ok(Given::Start {
-                name,
-                attributes,
-                place,
-            }) => Ok(Tag::Start {
+            Ok(
+                Given::Start {
+                    name,
+                    attributes,
+                    place,
+                },
+            ) => Ok(Tag::Start {
                 name,
                 attributes,
                 place,
             }),
-            Ok(Given::Empty {
-                name,
-                attributes,
-                place,
-            }) => {
+            Ok(
+                Given::Empty {
+                    name,
+                    attributes,
+                    place,
+                },
+            ) => {
                 self.ended = Some(place);
                 Ok(Tag::Start {
                     name,

@@ -1,4 +1,5 @@
-ghost use Rattle.std.specs.Prelude.{◌≤◌, length};
+ghost use Rattle.std.specs.Prelude.{◌≡◌, ◌≤◌, length};
+ghost use Rattle.tag_text.specs.Document.{after_order_mark};
 
 use crate::octets::after_mark;
 use crate::open::{MOST, Open};
@@ -18,6 +19,17 @@ pub(crate) struct Scan<'a> {
     begun: bool,
     open: Open<'a>,
     ghost within: { length rest.now ≤ total },
+}
+
+// What follows a byte order mark, if there is one.
+fn after_order_mark(text: &str) -> &str
+    ensures after { result.now ≡ after_order_mark text.now }
+    ensures less { length result.now ≤ length text.now }
+{
+    match after_mark(BYTE_ORDER_MARK, text) {
+        Some(after) => after,
+        None => text,
+    }
 }
 
 /// What a piece gives.
@@ -84,13 +96,9 @@ impl<'a> Scan<'a> {
     pub(crate) fn new(text: &'a str) -> Scan<'a>
         ensures start { state_of result ≡ start_of text.now }
     {
-        let rest = match after_mark(BYTE_ORDER_MARK, text) {
-            Some(after) => after,
-            None => text,
-        };
         Scan {
             total: text.len(),
-            rest,
+            rest: after_order_mark(text),
             begun: false,
             open: Open::new(),
         }

@@ -7,7 +7,7 @@ pub returns : goal.returns
 returns c =
     let now : Bor (List ℕ) → List ℕ = λ name. name.now in
     let long : length c.args.self.now ≡ c.self.inside.depth =
-        length_from_back now c.self.inside.names c.self.inside.depth c.args.self.now c.self.view_is (omega (arith, c.self.told, c.self.invariant)) in
+    length_from_back now c.self.inside.names c.self.inside.depth c.args.self.now c.self.view_is (omega (arith, c.self.told, c.self.invariant)) in
     let whole : c.self.inside.depth - 1 + 1 ≡ c.self.inside.depth = omega (arith, long, c.requires.some) in
     record {
       popped =
