@@ -10,6 +10,8 @@ mod piece;
 mod reader;
 mod scan;
 mod tag;
+#[cfg(test)]
+mod tests;
 mod text;
 mod value;
 
