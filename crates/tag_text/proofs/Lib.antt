@@ -5,3 +5,4 @@ mod PieceLemmas
 mod OpenLemmas
 mod DocumentLemmas
 mod ScanLemmas
+mod GrammarLemmas

@@ -23,7 +23,7 @@ pub map_some : {A B : Type 0} (f : A → B) (o : Option A) (y : B) → option_ma
 map_some f None y found = cc found
 map_some f (Some x) y found = (x, refl, cc found)
 
-while_splits : (test : ℕ → Bool) (text : List ℕ) → text ≡ take_while test text ++ drop_while test text
+pub while_splits : (test : ℕ → Bool) (text : List ℕ) → text ≡ take_while test text ++ drop_while test text
 while_splits test text =
     sym (take-append-drop (prefix_len test text) text)
     ∙ ap (λ (n : ℕ). take (prefix_len test text) text ++ drop n text) (sym (length-prefix_len test text))

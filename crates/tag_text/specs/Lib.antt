@@ -7,3 +7,4 @@ pub mod Scan
 pub mod Attributes
 pub mod Reading
 pub mod Reader
+pub mod Grammar
