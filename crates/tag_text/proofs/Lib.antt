@@ -6,3 +6,4 @@ mod OpenLemmas
 mod DocumentLemmas
 mod ScanLemmas
 mod GrammarLemmas
+mod LawLemmas

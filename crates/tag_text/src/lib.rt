@@ -4,6 +4,7 @@
 //! Nothing is read by recursion.
 #![tactic(auto)]
 
+mod law;
 mod octets;
 mod open;
 mod piece;
@@ -15,6 +16,7 @@ mod tests;
 mod text;
 mod value;
 
+pub use law::one_outcome;
 pub use reader::TagReader;
 pub use tag::{Tag, TagFault};
 pub use text::{Attributes, Text};
