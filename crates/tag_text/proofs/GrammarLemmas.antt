@@ -139,9 +139,9 @@ cut_is_at octet raw rest none =
     let long : prefix_len test (raw ++ octet ∷ rest) ≡ length raw = run_length test raw (octet ∷ rest) (not_any octet raw none) ends in
     let place_is : position_or_len (is_octet octet) (raw ++ octet ∷ rest) ≡ length raw = long in
     let front : before_first (is_octet octet) (raw ++ octet ∷ rest) ≡ raw =
-        ap (λ (n : ℕ). take n (raw ++ octet ∷ rest)) place_is ∙ take_at raw (octet ∷ rest) (length raw) refl in
+    ap (λ (n : ℕ). take n (raw ++ octet ∷ rest)) place_is ∙ take_at raw (octet ∷ rest) (length raw) refl in
     let back : after_first (is_octet octet) (raw ++ octet ∷ rest) ≡ rest =
-        ap (λ (n : ℕ). drop (n + 1) (raw ++ octet ∷ rest)) place_is ∙ drop_past raw octet rest in
+    ap (λ (n : ℕ). drop (n + 1) (raw ++ octet ∷ rest)) place_is ∙ drop_past raw octet rest in
     rw (any_after octet raw rest, front, back) refl
 
 quoted_is : (quote : ℕ) (raw rest : List ℕ) → is_quote quote ≡ true → list_any (is_octet quote) raw ≡ false → list_any (is_octet 60) raw ≡ false
@@ -161,15 +161,15 @@ attribute_is text rest name value is =
     let quotes : List ℕ = is.quote ∷ (is.raw ++ is.quote ∷ rest) in
     let after_name : List ℕ = is.before ++ 61 ∷ (is.after ++ quotes) in
     let first : after_blanks text ≡ name ++ after_name =
-        ap after_blanks is.spelled ∙ after_blanks_is (is.first ∷ is.blanks) (name ++ after_name) is.separated (name_begins_no_blank name after_name is.named) in
+    ap after_blanks is.spelled ∙ after_blanks_is (is.first ∷ is.blanks) (name ++ after_name) is.separated (name_begins_no_blank name after_name is.named) in
     let blank : begins_blank text ≡ true =
-        ap begins_blank is.spelled ∙ (both (is_blank is.first) (list_all is_blank is.blanks) is.separated).0 in
+    ap begins_blank is.spelled ∙ (both (is_blank is.first) (list_all is_blank is.blanks) is.separated).0 in
     let named : name_at (after_blanks text) ≡ Some (name, after_name) =
-        ap name_at first ∙ name_is name after_name is.named (blanks_then_other is.before (61 ∷ (is.after ++ quotes)) is.blank_before refl) in
+    ap name_at first ∙ name_is name after_name is.named (blanks_then_other is.before (61 ∷ (is.after ++ quotes)) is.blank_before refl) in
     let equals : after_mark (codes "=") (after_blanks after_name) ≡ Some (is.after ++ quotes) =
-        ap (after_mark (codes "=")) (after_blanks_is is.before (61 ∷ (is.after ++ quotes)) is.blank_before refl) ∙ mark_is (codes "=") (is.after ++ quotes) in
+    ap (after_mark (codes "=")) (after_blanks_is is.before (61 ∷ (is.after ++ quotes)) is.blank_before refl) ∙ mark_is (codes "=") (is.after ++ quotes) in
     let quoted : quoted_at (after_blanks (is.after ++ quotes)) ≡ Some (is.raw, rest) =
-        ap quoted_at (after_blanks_is is.after quotes is.blank_after (quote_no_blank is.quote is.quoted)) ∙ quoted_is is.quote is.raw rest is.quoted is.no_quote is.no_tag in
+    ap quoted_at (after_blanks_is is.after quotes is.blank_after (quote_no_blank is.quote is.quoted)) ∙ quoted_is is.quote is.raw rest is.quoted is.no_quote is.no_tag in
     rw (blank, named, equals, quoted, is.value_is) refl
 
 while_cons : (test : ℕ → Bool) (octet : ℕ) (text : List ℕ) → test octet ≡ true → take_while test (octet ∷ text) ≡ octet ∷ take_while test text
@@ -208,12 +208,12 @@ is_attribute text attribute found =
     let quote : ℕ = has.value.quoted.quote in
     let raw : List ℕ = has.value.raw in
     let fourth : has.after_equals ≡ after ++ quote ∷ (raw ++ quote ∷ attribute.1) =
-        blanks_split has.after_equals ∙ ap (λ (rest : List ℕ). after ++ rest) has.value.quoted.splits in
+    blanks_split has.after_equals ∙ ap (λ (rest : List ℕ). after ++ rest) has.value.quoted.splits in
     let third : has.after_name ≡ before ++ 61 ∷ (after ++ quote ∷ (raw ++ quote ∷ attribute.1)) =
-        blanks_split has.after_name ∙ ap (λ (rest : List ℕ). before ++ rest) (after_mark_splits (codes "=") (after_blanks has.after_name) has.after_equals has.equals)
-        ∙ ap (λ (rest : List ℕ). before ++ 61 ∷ rest) fourth in
+    blanks_split has.after_name ∙ ap (λ (rest : List ℕ). before ++ rest) (after_mark_splits (codes "=") (after_blanks has.after_name) has.after_equals has.equals)
+    ∙ ap (λ (rest : List ℕ). before ++ 61 ∷ rest) fourth in
     let second : after_blanks text ≡ name ++ (before ++ 61 ∷ (after ++ quote ∷ (raw ++ quote ∷ attribute.1))) =
-        has.name.splits ∙ ap (λ (rest : List ℕ). name ++ rest) third in
+    has.name.splits ∙ ap (λ (rest : List ℕ). name ++ rest) third in
     record {
       first = first.0;
       blanks = first.1;
@@ -254,7 +254,7 @@ no_attribute_at_end : (empty : Bool) (blanks rest : List ℕ) → IsBlanks blank
 unfolding attribute_at
 no_attribute_at_end empty blanks rest blank =
     let none : name_at (after_blanks (blanks ++ (tag_end empty ++ rest))) ≡ None =
-        ap name_at (after_blanks_is blanks (tag_end empty ++ rest) blank (end_no_blank empty rest)) ∙ no_name_at_end empty rest in
+    ap name_at (after_blanks_is blanks (tag_end empty ++ rest) blank (end_no_blank empty rest)) ∙ no_name_at_end empty rest in
     rw none (none_either (begins_blank (blanks ++ (tag_end empty ++ rest))))
 
 -- the attributes of the grammar are read
@@ -297,10 +297,10 @@ is_tag_end text end found =
     let has = has_tag_end text end found in
     let front : List ℕ = take_while is_blank text in
     elim has.is [
-      inl slash ↦ blanks_split text ∙ ap (λ (rest : List ℕ). front ++ rest) (after_mark_splits (codes "/>") (after_blanks text) end.1 slash.1)
+      | inl slash ↦ blanks_split text ∙ ap (λ (rest : List ℕ). front ++ rest) (after_mark_splits (codes "/>") (after_blanks text) end.1 slash.1)
           ∙ ap (λ (empty : Bool). front ++ (tag_end empty ++ end.1)) (sym slash.0)
-    | inr plain ↦ blanks_split text ∙ ap (λ (rest : List ℕ). front ++ rest) (after_mark_splits (codes ">") (after_blanks text) end.1 plain.1)
-        ∙ ap (λ (empty : Bool). front ++ (tag_end empty ++ end.1)) (sym plain.0)
+      | inr plain ↦ blanks_split text ∙ ap (λ (rest : List ℕ). front ++ rest) (after_mark_splits (codes ">") (after_blanks text) end.1 plain.1)
+          ∙ ap (λ (empty : Bool). front ++ (tag_end empty ++ end.1)) (sym plain.0)
     ]
 
 -- a name is ended by what may follow it in a tag
@@ -317,7 +317,7 @@ tag_is text rest empty name attributes is =
     let tail : List ℕ = is.blanks ++ (tag_end empty ++ rest) in
     let opened : after_mark (codes "<") text ≡ Some (name ++ is.body) = ap (after_mark (codes "<")) is.spelled ∙ mark_is (codes "<") (name ++ is.body) in
     let named : name_at (name ++ is.body) ≡ Some (name, is.body) =
-        name_is name is.body is.named (attributes_end_name tail is.body attributes is.attributed (blanks_then_other is.blanks (tag_end empty ++ rest) is.blank (end_no_name empty rest))) in
+    name_is name is.body is.named (attributes_end_name tail is.body attributes is.attributed (blanks_then_other is.blanks (tag_end empty ++ rest) is.blank (end_no_name empty rest))) in
     let attributed : attributes_at is.body ≡ (attributes, tail) = attributes_are tail is.body attributes is.attributed (no_attribute_at_end empty is.blanks rest is.blank) in
     rw (opened, named, attributed, tag_end_is empty is.blanks rest is.blank, is.distinct) refl
 
@@ -326,9 +326,9 @@ unfolding end_tag_at
 end_tag_is text rest name is =
     let opened : after_mark (codes "</") text ≡ Some (name ++ (is.blanks ++ 62 ∷ rest)) = ap (after_mark (codes "</")) is.spelled ∙ mark_is (codes "</") (name ++ (is.blanks ++ 62 ∷ rest)) in
     let named : name_at (name ++ (is.blanks ++ 62 ∷ rest)) ≡ Some (name, is.blanks ++ 62 ∷ rest) =
-        name_is name (is.blanks ++ 62 ∷ rest) is.named (blanks_then_other is.blanks (62 ∷ rest) is.blank refl) in
+    name_is name (is.blanks ++ 62 ∷ rest) is.named (blanks_then_other is.blanks (62 ∷ rest) is.blank refl) in
     let ended : after_mark (codes ">") (after_blanks (is.blanks ++ 62 ∷ rest)) ≡ Some rest =
-        ap (after_mark (codes ">")) (after_blanks_is is.blanks (62 ∷ rest) is.blank refl) ∙ mark_is (codes ">") rest in
+    ap (after_mark (codes ">")) (after_blanks_is is.blanks (62 ∷ rest) is.blank refl) ∙ mark_is (codes ">") rest in
     rw (opened, named, ended) refl
 
 -- what is read is such a tag
@@ -349,17 +349,23 @@ is_tag text found is =
     let has = has_name opened.0 name.0 name.1 in
     let blanks : List ℕ = take_while is_blank tail in
     let T : Piece × List ℕ → Type 0 = λ found'.
-        (empty : Bool) × (name : List ℕ) × (attributes : List (List ℕ × List ℕ)) × (found'.0 ≡ tag_of empty name attributes) × IsTag text found'.1 empty name attributes in
+    (empty : Bool) × (name : List ℕ) × (attributes : List (List ℕ × List ℕ)) × (found'.0 ≡ tag_of empty name attributes) × IsTag text found'.1 empty name attributes in
     let A : List ℕ → Type 0 = λ rest. IsAttributes rest name.0.1 attributes in
-    subst T same (end.0.0, name.0.0, attributes, refl, record {
-      body = name.0.1;
-      blanks = blanks;
-      spelled = after_mark_splits (codes "<") text opened.0 opened.1 ∙ ap (λ (rest : List ℕ). 60 ∷ rest) has.splits;
-      named = is_name opened.0 name.0 has;
-      attributed = subst A (is_tag_end tail end.0 end.1) (are_attributes name.0.1);
-      blank = front_passes is_blank tail;
-      distinct = distinct.0;
-    })
+    subst T same (
+      end.0.0,
+      name.0.0,
+      attributes,
+      refl,
+      record {
+        body = name.0.1;
+        blanks = blanks;
+        spelled = after_mark_splits (codes "<") text opened.0 opened.1 ∙ ap (λ (rest : List ℕ). 60 ∷ rest) has.splits;
+        named = is_name opened.0 name.0 has;
+        attributed = subst A (is_tag_end tail end.0 end.1) (are_attributes name.0.1);
+        blank = front_passes is_blank tail;
+        distinct = distinct.0;
+      },
+    )
 
 is_end_tag : (text : List ℕ) (found : Piece × List ℕ) → end_tag_at text ≡ Some found → (name : List ℕ) × (found.0 ≡ End name) × IsEndTag text found.1 name
 unfolding end_tag_at
@@ -374,15 +380,19 @@ is_end_tag text found is =
     let has = has_name opened.0 name.0 name.1 in
     let blanks : List ℕ = take_while is_blank name.0.1 in
     let ended : name.0.1 ≡ blanks ++ 62 ∷ after.0 =
-        blanks_split name.0.1 ∙ ap (λ (rest : List ℕ). blanks ++ rest) (after_mark_splits (codes ">") (after_blanks name.0.1) after.0 after.1) in
+    blanks_split name.0.1 ∙ ap (λ (rest : List ℕ). blanks ++ rest) (after_mark_splits (codes ">") (after_blanks name.0.1) after.0 after.1) in
     let T : Piece × List ℕ → Type 0 = λ found'. (name : List ℕ) × (found'.0 ≡ End name) × IsEndTag text found'.1 name in
-    subst T same (name.0.0, refl, record {
-      blanks = blanks;
-      spelled =
-          after_mark_splits (codes "</") text opened.0 opened.1 ∙ ap (λ (rest : List ℕ). 60 ∷ 47 ∷ rest) (has.splits ∙ ap (λ (rest : List ℕ). name.0.0 ++ rest) ended);
-      named = is_name opened.0 name.0 has;
-      blank = front_passes is_blank name.0.1;
-    })
+    subst T same (
+      name.0.0,
+      refl,
+      record {
+        blanks = blanks;
+        spelled =
+            after_mark_splits (codes "</") text opened.0 opened.1 ∙ ap (λ (rest : List ℕ). 60 ∷ 47 ∷ rest) (has.splits ∙ ap (λ (rest : List ℕ). name.0.0 ++ rest) ended);
+        named = is_name opened.0 name.0 has;
+        blank = front_passes is_blank name.0.1;
+      },
+    )
 
 -- what two marks enclose
 enclosed_is : (opening closing text rest : List ℕ) → 0 < length closing → IsEnclosed opening closing text rest → (after_mark opening text >>= after_first_mark closing) ≡ Some rest
@@ -391,10 +401,10 @@ enclosed_is opening closing text rest some is =
     let opened : after_mark opening text ≡ Some inner = ap (after_mark opening) is.spelled ∙ mark_is opening inner in
     let regrouped : inner ≡ (is.content ++ closing) ++ rest = sym (append_assoc is.content closing rest) in
     let last : drop (length is.content + length closing) inner ≡ rest =
-        ap (λ (octets : List ℕ). drop (length is.content + length closing) octets) regrouped
-        ∙ drop_at (is.content ++ closing) rest (length is.content + length closing) (length-append is.content closing) in
+    ap (λ (octets : List ℕ). drop (length is.content + length closing) octets) regrouped
+    ∙ drop_at (is.content ++ closing) rest (length is.content + length closing) (length-append is.content closing) in
     let here : drop (length is.content) inner ≡ closing ++ drop (length is.content + length closing) inner =
-        drop_at is.content (closing ++ rest) (length is.content) refl ∙ ap (λ (octets : List ℕ). closing ++ octets) (sym last) in
+    drop_at is.content (closing ++ rest) (length is.content) refl ∙ ap (λ (octets : List ℕ). closing ++ octets) (sym last) in
     ap (λ (o : Option (List ℕ)). o >>= after_first_mark closing) opened
     ∙ first_mark_at closing inner (length is.content) (length is.content + length closing) some is.next here refl ∙ ap Some last
 
@@ -491,10 +501,11 @@ name_first [] start = cc start
 name_first (first ∷ others) start = (first, others, refl, start)
 
 no_mark_octet : (first : ℕ) → is_name_start first ≡ true → (nat_eq 63 first ≡ false) × (nat_eq 33 first ≡ false) × (nat_eq 47 first ≡ false)
-no_mark_octet first start =
-    (by_test (nat_eq 63 first) (λ same. cc (ap is_name_start (eqb-true 63 first same), start)),
-    by_test (nat_eq 33 first) (λ same. cc (ap is_name_start (eqb-true 33 first same), start)),
-    by_test (nat_eq 47 first) (λ same. cc (ap is_name_start (eqb-true 47 first same), start)))
+no_mark_octet first start = (
+  by_test (nat_eq 63 first) (λ same. cc (ap is_name_start (eqb-true 63 first same), start)),
+  by_test (nat_eq 33 first) (λ same. cc (ap is_name_start (eqb-true 33 first same), start)),
+  by_test (nat_eq 47 first) (λ same. cc (ap is_name_start (eqb-true 47 first same), start)),
+)
 
 tag_piece_is : (inside : Bool) (text rest : List ℕ) (empty : Bool) (name : List ℕ) (attributes : List (List ℕ × List ℕ))
     → IsTag text rest empty name attributes → piece_at inside text ≡ Some (tag_of empty name attributes, rest)
@@ -531,7 +542,7 @@ skipped_piece_is inside text rest (inr (inl comment)) =
     rw (none, comment_is text rest comment) refl
 skipped_piece_is inside text rest (inr (inr longest)) =
     let differs : nat_eq 60 longest.first ≡ false =
-        not_open (text_test inside) longest.first (no_open inside) (both (text_test inside longest.first) (list_all (text_test inside) longest.others) longest.pass).0 in
+    not_open (text_test inside) longest.first (no_open inside) (both (text_test inside longest.first) (list_all (text_test inside) longest.others) longest.pass).0 in
     let others : List ℕ = longest.others ++ rest in
     let instruction : instruction_at text ≡ None = no_instruction text (ap (after_mark (codes "<?")) longest.spelled ∙ first_differs 60 (codes "?") longest.first others differs) in
     let comment : comment_at text ≡ None = no_comment text (ap (after_mark (codes "<!--")) longest.spelled ∙ first_differs 60 (codes "!--") longest.first others differs) in
@@ -555,17 +566,17 @@ unfolding piece_at instruction_at comment_at
 is_piece inside text found is =
     let P : Piece → Type 0 = λ p. IsPiece inside text found.1 p in
     elim (either_some (skipped (instruction_at text)) _ found is) [
-      inl instruction ↦ (let taken = skipped_some (instruction_at text) found instruction in
+      | inl instruction ↦ (let taken = skipped_some (instruction_at text) found instruction in
           subst P (sym (ap (λ (pair : Piece × List ℕ). pair.0) taken.1)) (inl (is_enclosed (codes "<?") (codes "?>") text found.1 taken.0)))
-    | inr others ↦ elim (either_some (skipped (comment_at text)) _ found others) [
-        inl comment ↦ (let taken = skipped_some (comment_at text) found comment in
+      | inr others ↦ elim (either_some (skipped (comment_at text)) _ found others) [
+        | inl comment ↦ (let taken = skipped_some (comment_at text) found comment in
             subst P (sym (ap (λ (pair : Piece × List ℕ). pair.0) taken.1)) (inr (inl (is_enclosed (codes "<!--") (codes "-->") text found.1 taken.0))))
-      | inr others ↦ elim (either_some (skipped (text_at inside text)) _ found others) [
-          inl octets ↦ (let taken = skipped_some (text_at inside text) found octets in
+        | inr others ↦ elim (either_some (skipped (text_at inside text)) _ found others) [
+          | inl octets ↦ (let taken = skipped_some (text_at inside text) found octets in
               subst P (sym (ap (λ (pair : Piece × List ℕ). pair.0) taken.1)) (inr (inr (is_text inside text found.1 taken.0))))
-        | inr tags ↦ elim (either_some (end_tag_at text) (start_tag_at text) found tags) [
-            inl end ↦ (let taken = is_end_tag text found end in subst P (sym taken.1) taken.2)
-          | inr start ↦ (let taken = is_tag text found start in subst P (sym taken.3) (tag_piece inside text found.1 taken.0 taken.1 taken.2 taken.4))
+          | inr tags ↦ elim (either_some (end_tag_at text) (start_tag_at text) found tags) [
+            | inl end ↦ (let taken = is_end_tag text found end in subst P (sym taken.1) taken.2)
+            | inr start ↦ (let taken = is_tag text found start in subst P (sym taken.3) (tag_piece inside text found.1 taken.0 taken.1 taken.2 taken.4))
           ]
         ]
       ]

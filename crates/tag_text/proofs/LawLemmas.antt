@@ -112,8 +112,8 @@ longest_case octets n false is less = record {
   within = omega (arith, less.within);
   front = less.front;
   longest = λ m above below utf8. elim (last_or_less m n (nat_le m n) refl below) [
-    inl small ↦ less.longest m above small utf8
-  | inr last ↦ (let U : ℕ → Type 0 = λ k. IsUtf8 (take k octets) in cc (is, is_utf8-from_IsUtf8 (take (suc n) octets) (subst U last utf8)))
+    | inl small ↦ less.longest m above small utf8
+    | inr last ↦ (let U : ℕ → Type 0 = λ k. IsUtf8 (take k octets) in cc (is, is_utf8-from_IsUtf8 (take (suc n) octets) (subst U last utf8)))
   ];
 }
 

@@ -6,5 +6,4 @@ ghost use Rattle.tag_text.specs.Grammar.{IsDocument};
 pub fn one_outcome()
     ensures there { (octets : List ℕ) → IsDocument octets (outcome_of octets) }
     ensures only { (octets : List ℕ) (left : Left) → IsDocument octets left → left ≡ outcome_of octets }
-{
-}
+{}

@@ -30,10 +30,12 @@ impl<'a> Model for TagReader<'a> {
 impl<'a> TagReader<'a> {
     ghost use Rattle.std.specs.Prelude.{◌≡◌};
     ghost use Rattle.tag_text.specs.Document.{outcome_of};
+    ghost use Rattle.tag_text.specs.Grammar.{IsDocument};
     ghost use Rattle.tag_text.specs.Reader.{Gives};
 
     /// A reader before the first tag of the document with these octets.
     pub fn new(bytes: &'a [u8]) -> TagReader<'a>
+        ensures document { IsDocument bytes.now result }
         ensures all { result ≡ outcome_of bytes.now }
     {
         match str::from_utf8(bytes) {
