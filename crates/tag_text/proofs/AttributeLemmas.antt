@@ -1,5 +1,5 @@
 -- The search for an attribute by its name.
-use Rattle.std.proofs.Common.{◌≡◌, ◌≢◌, ℕ, Bool, true, false, cond, List, [], ◌∷◌, find, Option, Some, None, refl, sym, ◌∙◌}
+use Rattle.std.proofs.Common.{◌≡◌, ◌≢◌, ℕ, Bool, true, false, List, [], ◌∷◌, Option, Some, None, refl, sym}
 use Rattle.std.specs.List.{All}
 use Rattle.std.specs.Option.{option_map, IfNone}
 use Rattle.std.specs.Str.{bytes_eq}

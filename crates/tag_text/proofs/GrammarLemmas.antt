@@ -1,19 +1,19 @@
 -- What is read at the front of a text is what the grammar has there, and nothing else.
-use Rattle.std.proofs.Common.{◌≡◌, ◌≢◌, ℕ, zero, suc, ◌+◌, ◌-◌, ◌<◌, ◌≤◌, ◌==◌, Bool, true, false, cond, not, ◌||◌, ◌&&◌, ◌⊎◌, inl, inr, List, [], ◌∷◌, ◌++◌, length, take, drop, get_or, codes, nat_eq, Option, Some, None, arith, ap, ◌∙◌, sym, refl, subst, eqb-true}
-use Rattle.std.specs.Option.{option_map, option_and_then, option_map_or}
-use Rattle.std.specs.List.{prefix_len, take_while, list_all, list_any, position_or_len, before_first, after_first, All}
+use Rattle.std.proofs.Common.{◌≡◌, ℕ, zero, suc, ◌+◌, ◌<◌, Bool, true, false, cond, not, ◌||◌, ◌&&◌, inl, inr, List, [], ◌∷◌, ◌++◌, length, take, drop, codes, nat_eq, Option, Some, None, arith, ap, ◌∙◌, sym, refl, subst, eqb-true}
+use Rattle.std.specs.Option.{option_map_or}
+use Rattle.std.specs.List.{prefix_len, take_while, list_all, list_any, position_or_len, before_first, after_first}
 use Rattle.std.specs.Cmp.Lexicographic.{pointwise}
 use Rattle.std.specs.Str.Pattern.{LacksTextAt}
 use Rattle.std.proofs.lemmas.Bool.Decides.{nat_tests}
-use Rattle.std.proofs.lemmas.List.{append_assoc, append-nil, length-append, take_at, drop_at}
+use Rattle.std.proofs.lemmas.List.{append_assoc, length-append, take_at, drop_at}
 use Rattle.std.proofs.lemmas.List.Folds.{length-prefix_len, list_any_none}
 use Rattle.tag_text.specs.Octets.{is_blank, is_octet, is_name_start, is_name_octet, begins_name, drop_while, after_blanks, after_mark, after_first_mark, cut_at, name_at}
-use Rattle.tag_text.specs.Values.{is_quote, value_of, quoted_at, value_at}
-use Rattle.tag_text.specs.Pieces.{◌>>=◌, Piece, Start, Empty, End, Skipped, or_else, begins_blank, begins_text, is_text_octet, attribute_at, with_first, attributes_within, attributes_at, tag_end_at, tag_of, tag_with, start_tag_at, end_tag_at, skipped, instruction_at, comment_at, text_at, piece_at}
+use Rattle.tag_text.specs.Values.{is_quote, quoted_at, value_at}
+use Rattle.tag_text.specs.Pieces.{◌>>=◌, Piece, Start, Empty, End, Skipped, begins_blank, is_text_octet, attribute_at, with_first, attributes_within, attributes_at, tag_end_at, tag_of, tag_with, start_tag_at, end_tag_at, skipped, instruction_at, comment_at, text_at, piece_at}
 use Rattle.tag_text.specs.Attributes.{are_distinct}
 use Rattle.tag_text.specs.Grammar.{BeginsOther, IsBlanks, IsName, IsAttribute, IsAttributes, NoMore, OneMore, tag_end, IsTag, IsEndTag, IsEnclosed, IsLongest, text_test, IsPiece}
-use Rattle.tag_text.proofs.OctetLemmas.{by_test, by_not, begins, after_mark_splits, first_mark_at, has_first_mark}
-use Rattle.tag_text.proofs.PieceLemmas.{bind_some, test_some, either_some, skipped_some, HasName, has_name, HasAttribute, has_attribute, HasTagEnd, has_tag_end, no_attribute, one_attribute, blanks_split, while_splits}
+use Rattle.tag_text.proofs.OctetLemmas.{by_test, begins, after_mark_splits, first_mark_at, has_first_mark}
+use Rattle.tag_text.proofs.PieceLemmas.{bind_some, test_some, either_some, skipped_some, HasName, has_name, has_attribute, has_tag_end, no_attribute, one_attribute, blanks_split, while_splits}
 
 both : (a b : Bool) → (a && b) ≡ true → (a ≡ true) × (b ≡ true)
 both true b is = (refl, is)

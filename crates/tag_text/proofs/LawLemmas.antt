@@ -1,5 +1,5 @@
 -- Each list of octets is a document of the grammar with exactly one outcome, the one that is read.
-use Rattle.std.proofs.Common.{◌≡◌, ◌≢◌, ℕ, zero, suc, ◌+◌, ◌<◌, ◌≤◌, Bool, true, false, cond, not, ◌||◌, ◌&&◌, ◌⊎◌, inl, inr, nat_lt, nat_le, List, [], ◌∷◌, ◌++◌, length, take, Option, Some, None, arith, ap, ◌∙◌, sym, refl, subst}
+use Rattle.std.proofs.Common.{◌≡◌, ℕ, zero, suc, ◌<◌, ◌≤◌, Bool, true, false, cond, ◌&&◌, ◌⊎◌, inl, inr, nat_lt, nat_le, List, [], ◌∷◌, length, take, Option, Some, None, arith, ap, ◌∙◌, sym, refl, subst}
 use Rattle.std.specs.Option.{option_map_or}
 use Rattle.std.specs.Str.{IsUtf8, is_utf8, IsValidUpTo}
 use Rattle.std.specs.Str.Lossy.{utf8_valid_len, valid_len_up_to}
@@ -7,11 +7,9 @@ use Rattle.std.proofs.lemmas.Str.{IsUtf8-from_is_utf8, is_utf8-from_IsUtf8, utf8
 use Rattle.std.proofs.lemmas.List.{take_all}
 use borrow.Author.Tests.{ltb-true, ltb-false, leb-true, leb-false}
 use Rattle.tag_text.specs.Pieces.{Piece, piece_at}
-use Rattle.tag_text.specs.declared.tag.Tag.{Tag}
-use Rattle.tag_text.specs.declared.tag.TagFault.{TagFault}
 use Rattle.tag_text.specs.declared.tag.TagFault.TheVariants as fault
 use Rattle.tag_text.specs.Document.{Left, State, Step, Goes, Stops, place_of, is_empty, is_inside, is_whole, bad, judged, step, left_of, start_of, outcome_of}
-use Rattle.tag_text.specs.Scan.{after_tags, only}
+use Rattle.tag_text.specs.Scan.{after_tags}
 use Rattle.tag_text.specs.Grammar.{IsPiece, IsLeft, Whole, Next, Misplaced, NoPiece, IsDocument}
 use Rattle.tag_text.proofs.PieceLemmas.{piece_less}
 use Rattle.tag_text.proofs.GrammarLemmas.{piece_is, is_piece}

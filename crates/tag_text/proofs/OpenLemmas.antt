@@ -1,5 +1,5 @@
 -- The innermost of the open elements.
-use Rattle.std.proofs.Common.{◌≡◌, ℕ, suc, zero, ◌+◌, ◌-◌, ◌<◌, ◌≤◌, List, [], ◌∷◌, ◌++◌, length, take, drop, map, reverse, get_or, arith, ap, ◌∙◌, sym, refl}
+use Rattle.std.proofs.Common.{◌≡◌, ℕ, ◌+◌, ◌<◌, ◌≤◌, List, [], ◌∷◌, length, take, drop, map, reverse, get_or, arith, ap, ◌∙◌, sym}
 use Rattle.std.proofs.lemmas.List.{map-append, reverse-append, take_more, length-reverse, length-map, length-take-le}
 
 -- the list from the back without its last

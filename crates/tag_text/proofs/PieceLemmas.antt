@@ -1,12 +1,12 @@
 -- What is read of a text leaves less of it.
-use Rattle.std.proofs.Common.{◌≡◌, ◌≢◌, ℕ, zero, suc, ◌+◌, ◌<◌, ◌≤◌, Bool, true, false, cond, not, ◌⊎◌, inl, inr, List, [], ◌∷◌, ◌++◌, length, take, drop, codes, Option, Some, None, arith, ap, ◌∙◌, sym, refl, subst}
-use Rattle.std.specs.Option.{option_map, option_and_then, option_map_or}
-use Rattle.std.specs.List.{take_while, prefix_len, before_first, after_first, list_any, All}
+use Rattle.std.proofs.Common.{◌≡◌, ℕ, zero, suc, ◌+◌, ◌<◌, ◌≤◌, Bool, true, false, cond, ◌⊎◌, inl, inr, List, [], ◌∷◌, ◌++◌, length, take, drop, codes, Option, Some, None, arith, ap, ◌∙◌, sym, refl, subst}
+use Rattle.std.specs.Option.{option_map, option_map_or}
+use Rattle.std.specs.List.{take_while, prefix_len, list_any, All}
 use Rattle.std.proofs.lemmas.List.{length-append, length-drop, take-append-drop, append_assoc, append-nil}
 use Rattle.std.proofs.lemmas.List.Folds.{length-prefix_len}
 use Rattle.tag_text.specs.Octets.{is_blank, is_octet, is_name_octet, begins_name, drop_while, after_blanks, after_mark, after_first_mark, cut_at, name_at}
 use Rattle.tag_text.specs.Values.{value_of, quoted_at, value_at, is_quote}
-use Rattle.tag_text.specs.Pieces.{Piece, Start, Empty, End, Skipped, ◌>>=◌, or_else, begins_blank, begins_text, is_text_octet, attribute_at, with_first, attributes_within, attributes_at, tag_end_at, tag_of, tag_with, start_tag_at, end_tag_at, skipped, instruction_at, comment_at, text_at, piece_at}
+use Rattle.tag_text.specs.Pieces.{Piece, End, Skipped, ◌>>=◌, or_else, begins_blank, is_text_octet, attribute_at, with_first, attributes_within, attributes_at, tag_end_at, tag_of, tag_with, start_tag_at, end_tag_at, skipped, instruction_at, comment_at, text_at, piece_at}
 use Rattle.tag_text.specs.Attributes.{are_distinct}
 use Rattle.tag_text.specs.Reading.{with_firsts}
 use Rattle.tag_text.proofs.OctetLemmas.{after_mark_splits, cut_is, has_first_mark}

@@ -1,17 +1,16 @@
 -- What a scan gives, in what is left.
-use Rattle.std.proofs.Common.{◌≡◌, ◌≢◌, ℕ, ◌==◌, Bool, true, false, cond, List, [], ◌∷◌, ◌++◌, length, Option, Some, None, Ok, Err, Result, arith, ap, ◌∙◌, sym, refl}
+use Rattle.std.proofs.Common.{◌≡◌, ℕ, ◌==◌, Bool, true, false, cond, List, [], ◌∷◌, length, Some, None, Ok, Err, arith, ap, ◌∙◌, sym}
 use Rattle.std.specs.Str.{IsUtf8, IsValidUpTo}
 use Rattle.std.specs.Str.Lossy.{utf8_valid_len}
 use Rattle.std.proofs.lemmas.Str.{utf8_valid_len-IsUtf8}
 use Rattle.std.proofs.lemmas.Bool.Decides.{nat_tests}
 use Rattle.tag_text.specs.declared.scan.Given.{Given}
 use Rattle.tag_text.specs.declared.scan.Given.TheVariants as given
-use Rattle.tag_text.specs.declared.tag.Tag.{Tag}
 use Rattle.tag_text.specs.declared.tag.Tag.TheVariants as tag
 use Rattle.tag_text.specs.declared.tag.TagFault.{TagFault}
 use Rattle.tag_text.specs.declared.tag.TagFault.TheVariants as fault
-use Rattle.tag_text.specs.Document.{Left, State, Step, Goes, Stops, step, left_of, start_of, outcome_of}
-use Rattle.tag_text.specs.Scan.{Answers, GivesLeft, after_tags, only}
+use Rattle.tag_text.specs.Document.{Left, State, Goes, step, left_of, start_of, outcome_of}
+use Rattle.tag_text.specs.Scan.{Answers, GivesLeft, only}
 use Rattle.tag_text.proofs.DocumentLemmas.{left_goes, left_stops}
 
 pub gives : (all : Left) (old new : State) (g : Given) → left_of old ≡ all → Answers (step old) old new (Ok (Some g)) → GivesLeft all (left_of new) (Ok g)

@@ -1,8 +1,7 @@
 -- Breaks, numbers and references in a value.
-use Rattle.std.proofs.Common.{◌≡◌, ◌≢◌, ℕ, zero, suc, ◌+◌, ◌*◌, ◌-◌, ◌<◌, ◌≤◌, ◌==◌, nat_lt, ◌&&◌, not, Bool, true, false, cond, List, [], ◌∷◌, ◌++◌, length, take, drop, get_or, nat_eq, codes, fold, Option, Some, None, arith, ap, ◌∙◌, sym, refl, subst, add-zero}
-use Rattle.std.specs.List.{prefix_len, starts_with, take_while, list_all}
-use Rattle.std.specs.Option.{option_map}
-use Rattle.std.proofs.lemmas.Bool.Decides.{nat_tests, Decides-eqb}
+use Rattle.std.proofs.Common.{◌≡◌, ◌≢◌, ℕ, suc, ◌+◌, ◌<◌, ◌==◌, ◌&&◌, not, Bool, true, false, cond, List, [], ◌∷◌, ◌++◌, length, take, drop, get_or, codes, Some, None, arith, ap, ◌∙◌, sym, refl, subst, add-zero}
+use Rattle.std.specs.List.{prefix_len, take_while}
+use Rattle.std.proofs.lemmas.Bool.Decides.{nat_tests}
 use Rattle.std.specs.Str.{IsCharBoundary}
 use Rattle.std.proofs.lemmas.List.Sums.{prefix_len-le-length, prefix_len_stops}
 use Rattle.std.proofs.lemmas.List.Folds.{length-prefix_len}
@@ -10,7 +9,7 @@ use Rattle.std.proofs.lemmas.List.{length-drop, get_or-drop, append-nil, append_
 use Rattle.tag_text.proofs.OctetLemmas.{after_mark_splits, by_test}
 use Rattle.tag_text.specs.Reading.{BeginsNoBreak}
 use Rattle.tag_text.specs.Octets.{after_mark}
-use Rattle.tag_text.specs.Values.{is_break, space_for, spaced, number_of, is_character}
+use Rattle.tag_text.specs.Values.{is_break, space_for, spaced}
 
 break_is_ascii : (octet : ℕ) → is_break octet ≡ true → octet < 128
 break_is_ascii octet breaks = grind (arith, nat_tests)

@@ -7,7 +7,7 @@ use Rattle.tag_text.specs.Octets.{is_blank, is_octet, is_name_octet, begins_name
 use Rattle.tag_text.specs.Values.{is_quote, value_of}
 use Rattle.tag_text.specs.Attributes.{are_distinct}
 use Rattle.tag_text.specs.Pieces.{Piece, Start, Empty, End, Skipped, is_text_octet}
-use Rattle.tag_text.specs.Document.{Left, State, Step, Goes, Stops, place_of, is_inside, is_whole, judged, start_of}
+use Rattle.tag_text.specs.Document.{Left, State, Goes, Stops, place_of, is_inside, is_whole, judged, start_of}
 use Rattle.tag_text.specs.Scan.{after_tags, only}
 use Rattle.tag_text.specs.declared.tag.Tag.{Tag}
 use Rattle.tag_text.specs.declared.tag.TagFault.{TagFault}

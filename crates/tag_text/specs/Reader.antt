@@ -1,5 +1,5 @@
 -- What a reader has still to give.
-use Rattle.std.specs.Prelude.{◌≡◌, ℕ, List, [], ◌∷◌, ◌++◌, Option, Some, None, Result, Ok, Err}
+use Rattle.std.specs.Prelude.{◌≡◌, ℕ, List, [], ◌∷◌, Option, Some, None, Result, Ok, Err}
 use Rattle.tag_text.specs.Document.{Left, left_of}
 use Rattle.tag_text.specs.Scan.{state_of, after_tags, only}
 use Rattle.tag_text.specs.declared.reader.TagReader.TheInside.{Inside}

@@ -1,4 +1,3 @@
-use Rattle.std.proofs.Common.{arith}
 use Rattle.tag_text.proofs.OctetLemmas.{cut_after_blanks}
 use Rattle.tag_text.proofs.octets.after_blanks.Goals as goal
 

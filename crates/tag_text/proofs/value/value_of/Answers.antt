@@ -1,5 +1,4 @@
 use Rattle.std.proofs.Common.{refl, rules}
-use Rattle.std.specs.String.{string_bytes}
 use Rattle.tag_text.specs.Values.{value_of}
 use Rattle.tag_text.proofs.value.value_of.Goals as goal
 
