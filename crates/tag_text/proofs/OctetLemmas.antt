@@ -107,7 +107,7 @@ pub by_not : (b : Bool) → not b ≡ false → b ≡ true
 by_not true is = refl
 by_not false is = cc is
 
-by_not_true : (b : Bool) → not b ≡ true → b ≡ false
+pub by_not_true : (b : Bool) → not b ≡ true → b ≡ false
 by_not_true true is = cc is
 by_not_true false is = refl
 

@@ -96,31 +96,32 @@ fn start_tag_at(alloc: Global, text: &str) -> Result<Option<(Piece<'_>, &str)>, 
         return Ok(None);
     };
     match attributes_at(alloc, after_name) {
-        Ok((attributes, rest)) => Ok(tag_with(name, attributes, rest)),
+        Ok((attributes, rest)) => tag_with(alloc, name, attributes, rest),
         Err(NoMemory) => Err(NoMemory),
     }
 }
 
 // The tag with this name and these attributes, where it ends here and no attribute is repeated; and what follows.
 fn tag_with<'a>(
+    alloc: Global,
     name: &'a str,
     attributes: Attributes,
     rest: &'a str,
-) -> Option<(Piece<'a>, &'a str)>
-    ensures tag { option_map (λ piece. (piece_of piece.0, piece.1.now)) result ≡ tag_with name.now attributes rest.now }
+) -> Result<Option<(Piece<'a>, &'a str)>, NoMemory>
+    ensures tag { IfOk result (λ found. option_map (λ piece. (piece_of piece.0, piece.1.now)) found ≡ tag_with name.now attributes rest.now) }
 {
     let Some((is_empty, after)) = tag_end_at(rest) else {
-        return None;
+        return Ok(None);
     };
-    if !attributes.are_distinct() {
-        return None;
+    if !attributes.are_distinct(alloc)? {
+        return Ok(None);
     }
     let tag = if is_empty {
         Piece::Empty { name, attributes }
     } else {
         Piece::Start { name, attributes }
     };
-    Some((tag, after))
+    Ok(Some((tag, after)))
 }
 
 // An end tag, and what follows.

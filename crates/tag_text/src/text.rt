@@ -1,12 +1,11 @@
 ghost use Rattle.std.specs.Prelude.{◌≡◌, ◌≢◌, ◌≤◌, ℕ, List, [], ◌∷◌, ◌++◌, length, slice_get, MatchOption, IfNone, IfOk, OnErr, OnOk, All};
 ghost use Rattle.std.specs.Option.{option_map};
-ghost use Rattle.std.specs.List.{list_any};
-ghost use Rattle.std.specs.Str.{bytes_eq};
 ghost use Rattle.std.specs.String.{string_bytes};
 ghost use Rattle.tag_text.specs.Attributes.{value_named, are_distinct};
 
 use knx_base::NoMemory;
 use std::alloc::Global;
+use std::collections::BTreeSet;
 use std::marker::Model;
 
 /// A name or a value. A contract sees it as its octets.
@@ -72,10 +71,10 @@ impl Attributes {
     }
 
     /// No two attributes have one name.
-    pub(crate) fn are_distinct(&self) -> bool
-        ensures distinct { result ≡ are_distinct self.now }
+    pub(crate) fn are_distinct(&self, alloc: Global) -> Result<bool, NoMemory>
+        ensures distinct { IfOk result (λ distinct. distinct ≡ are_distinct self.now) }
     {
-        are_distinct(&self.pairs)
+        are_distinct(alloc, &self.pairs)
     }
 
     fn named(&self, name: &str) -> Option<&str>
@@ -110,21 +109,18 @@ impl Attributes {
     }
 }
 
-fn are_distinct(pairs: &[(Text, Text)]) -> bool
-    ensures distinct { result ≡ are_distinct pairs.now }
+// From the last on, since each name is told from those after it.
+fn are_distinct(alloc: Global, pairs: &[(Text, Text)]) -> Result<bool, NoMemory>
+    ensures distinct { IfOk result (λ distinct. distinct ≡ are_distinct pairs.now) }
 {
-    let mut rest = pairs;
-    'pairs: while let [first, others @ ..] = rest {
-        if is_named(others, first.0.as_str()) {
-            return false;
+    let mut names = BTreeSet::new(alloc);
+    let mut left = pairs.len();
+    'names: while left > 0 {
+        left -= 1;
+        let pair = &pairs[left];
+        if !names.insert(pair.0.as_str())? {
+            return Ok(false);
         }
-        rest = others;
     }
-    true
-}
-
-fn is_named(pairs: &[(Text, Text)], name: &str) -> bool
-    ensures named { result ≡ list_any (λ attribute. bytes_eq attribute.0 name.now) pairs.now }
-{
-    pairs.iter().any(|pair| pair.0.as_str() == name)
+    Ok(true)
 }
