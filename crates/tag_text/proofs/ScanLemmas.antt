@@ -5,20 +5,21 @@ use Rattle.std.specs.Str.Lossy.{utf8_valid_len}
 use Rattle.std.proofs.lemmas.Str.{utf8_valid_len-IsUtf8}
 use Rattle.std.proofs.lemmas.Bool.Decides.{nat_tests}
 use Rattle.tag_text.specs.declared.scan.Given.{Given}
-use Rattle.tag_text.specs.declared.scan.Given.TheVariants as given
+use Rattle.tag_text.specs.declared.tag.Tag.{Tag}
 use Rattle.tag_text.specs.declared.tag.Tag.TheVariants as tag
 use Rattle.tag_text.specs.declared.tag.TagFault.{TagFault}
 use Rattle.tag_text.specs.declared.tag.TagFault.TheVariants as fault
 use Rattle.tag_text.specs.Document.{Left, State, Goes, step, left_of, start_of, outcome_of}
-use Rattle.tag_text.specs.Scan.{Answers, GivesLeft, only}
+use Rattle.tag_text.specs.Scan.{Answers, GivesTag, TakesTag, GivesLeft, end_of, only}
 use Rattle.tag_text.proofs.DocumentLemmas.{left_goes, left_stops}
 
+gives_tag : (all : Left) (old new : State) (g : Tag) (ends : List Tag) → left_of old ≡ all → GivesTag (step old) old new g ends → TakesTag all (left_of new) g ends
+gives_tag all old new (tag.Start name attributes place) ends is answer = sym is ∙ left_goes old new (tag.Start name attributes place ∷ ends) answer
+gives_tag all old new (tag.End place) ends is answer = sym is ∙ left_goes old new (tag.End place ∷ ends) answer
+gives_tag all old new tag.Finish ends is answer = (sym is ∙ left_stops old None answer.0, ap left_of answer.1 ∙ is, answer.2)
+
 pub gives : (all : Left) (old new : State) (g : Given) → left_of old ≡ all → Answers (step old) old new (Ok (Some g)) → GivesLeft all (left_of new) (Ok g)
-gives all old new (given.Start name attributes place) is answer = sym is ∙ left_goes old new (tag.Start name attributes place ∷ []) answer
-gives all old new (given.Empty name attributes place) is answer =
-    sym is ∙ left_goes old new (tag.Start name attributes place ∷ tag.End place ∷ []) answer
-gives all old new (given.End place) is answer = sym is ∙ left_goes old new (tag.End place ∷ []) answer
-gives all old new given.Finish is answer = (sym is ∙ left_stops old None answer.0, ap left_of answer.1 ∙ is)
+gives all old new g is answer = gives_tag all old new g.tag (end_of g.ended) is answer
 
 pub fails : (all : Left) (old new : State) (f : TagFault) → left_of old ≡ all → Answers (step old) old new (Err f) → GivesLeft all (left_of new) (Err f)
 fails all old new fault.NoMemory is answer = ap left_of answer ∙ is

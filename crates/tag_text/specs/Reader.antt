@@ -1,17 +1,12 @@
 -- What a reader has still to give.
-use Rattle.std.specs.Prelude.{◌≡◌, ℕ, List, [], ◌∷◌, Option, Some, None, Result, Ok, Err}
+use Rattle.std.specs.Prelude.{◌≡◌, ℕ, [], ◌∷◌, Option, Some, None, Result, Ok, Err}
 use Rattle.tag_text.specs.Document.{Left, left_of}
-use Rattle.tag_text.specs.Scan.{state_of, after_tags, only}
+use Rattle.tag_text.specs.Scan.{state_of, end_of, after_tags, only}
 use Rattle.tag_text.specs.declared.reader.TagReader.TheInside.{Inside}
 use Rattle.tag_text.specs.declared.tag.Tag.{Tag}
 use Rattle.tag_text.specs.declared.tag.Tag.TheVariants as tag
 use Rattle.tag_text.specs.declared.tag.TagFault.{TagFault}
 use Rattle.tag_text.specs.declared.tag.TagFault.TheVariants as fault
-
--- the end of an empty element that is still to be given
-abbrev pub end_of : Option ℕ → List Tag
-end_of None = []
-end_of (Some place) = tag.End place ∷ []
 
 -- the fault of a document that is no UTF-8, and what is left of any other
 abbrev pub left_if_well_formed : Option ℕ → Left → Left

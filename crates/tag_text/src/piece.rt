@@ -1,6 +1,6 @@
 //! The pieces of a document.
 
-ghost use Rattle.std.specs.Prelude.{◌≡◌, ◌<◌, ◌≤◌, ◌++◌, ◌∷◌, List, ℕ, length, IfOk, IfSome, IfNone, codes};
+ghost use Rattle.std.specs.Prelude.{◌≡◌, IfOk};
 ghost use Rattle.std.specs.Option.{option_map};
 ghost use Rattle.tag_text.specs.Pieces.{attribute_at, attributes_at, tag_end_at, start_tag_at, tag_with, end_tag_at, instruction_at, comment_at, text_at, piece_at, begins_blank};
 ghost use Rattle.tag_text.specs.PieceView.{piece_of};

@@ -1,6 +1,4 @@
-ghost use Rattle.std.specs.Prelude.{◌≡◌, ◌≤◌, length};
-
-use crate::scan::{Given, Scan};
+use crate::scan::Scan;
 use crate::tag::{Tag, TagFault};
 use std::alloc::Global;
 use std::marker::Model;
@@ -65,33 +63,10 @@ impl<'a> TagReader<'a> {
             return Ok(Tag::End { place });
         }
         match self.scan.next(alloc) {
-            Ok(
-                Given::Start {
-                    name,
-                    attributes,
-                    place,
-                },
-            ) => Ok(Tag::Start {
-                name,
-                attributes,
-                place,
-            }),
-            Ok(
-                Given::Empty {
-                    name,
-                    attributes,
-                    place,
-                },
-            ) => {
-                self.ended = Some(place);
-                Ok(Tag::Start {
-                    name,
-                    attributes,
-                    place,
-                })
+            Ok(given) => {
+                self.ended = given.ended;
+                Ok(given.tag)
             }
-            Ok(Given::End { place }) => Ok(Tag::End { place }),
-            Ok(Given::Finish) => Ok(Tag::Finish),
             Err(fault) => Err(fault),
         }
     }

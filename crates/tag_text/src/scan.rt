@@ -4,7 +4,7 @@ ghost use Rattle.tag_text.specs.Document.{after_order_mark};
 use crate::octets::after_mark;
 use crate::open::{MOST, Open};
 use crate::piece::{Piece, piece_at};
-use crate::tag::TagFault;
+use crate::tag::{Tag, TagFault};
 use crate::text::{Attributes, Text};
 use knx_base::NoMemory;
 use std::alloc::Global;
@@ -32,23 +32,11 @@ fn after_order_mark(text: &str) -> &str
     }
 }
 
-/// What a piece gives.
+/// A tag that a piece gives, and the place of an end that comes right after it.
 #[derive(Drop)]
-pub(crate) enum Given {
-    Start {
-        name: Text,
-        attributes: Attributes,
-        place: usize,
-    },
-    Empty {
-        name: Text,
-        attributes: Attributes,
-        place: usize,
-    },
-    End {
-        place: usize,
-    },
-    Finish,
+pub(crate) struct Given {
+    pub(crate) tag: Tag,
+    pub(crate) ended: Option<usize>,
 }
 
 impl<'a> Scan<'a> {
@@ -123,7 +111,10 @@ impl<'a> Scan<'a> {
         ensures answer { Answers (step (state_of self.old)) (state_of self.old) (state_of self.new) result }
     {
         if self.is_whole() {
-            return Ok(Some(Given::Finish));
+            return Ok(Some(Given {
+                tag: Tag::Finish,
+                ended: None,
+            }));
         }
         match piece_at(alloc, self.is_inside(), self.rest) {
             Ok(Some((piece, after))) => self.judge(alloc, piece, after),
@@ -133,8 +124,8 @@ impl<'a> Scan<'a> {
     }
 
     // Takes it that an element begins here, if one may.
-    fn begin(&mut self, alloc: Global, name: &str) -> Result<Text, TagFault>
-        ensures begins { BeginsElement (state_of self.old) (state_of self.new) name.now result }
+    fn begin(&mut self, alloc: Global, name: &str, attributes: Attributes) -> Result<Tag, TagFault>
+        ensures begins { BeginsElement (state_of self.old) (state_of self.new) name.now attributes result }
     {
         if !self.may_begin() {
             return Err(TagFault::Bad(self.place()));
@@ -143,9 +134,13 @@ impl<'a> Scan<'a> {
             return Err(TagFault::Deep(self.place()));
         }
         match Text::copy(alloc, name) {
-            Ok(text) => {
+            Ok(name) => {
                 self.begun = true;
-                Ok(text)
+                Ok(Tag::Start {
+                    name,
+                    attributes,
+                    place: self.place(),
+                })
             }
             Err(NoMemory) => Err(TagFault::NoMemory),
         }
@@ -163,22 +158,17 @@ impl<'a> Scan<'a> {
         let place = self.place();
         match piece {
             Piece::Start { name, attributes } => {
-                let text = self.begin(alloc, name)?;
+                let tag = self.begin(alloc, name, attributes)?;
                 self.open.push(name);
                 self.rest = after;
-                Ok(Some(Given::Start {
-                    name: text,
-                    attributes,
-                    place,
-                }))
+                Ok(Some(Given { tag, ended: None }))
             }
             Piece::Empty { name, attributes } => {
-                let text = self.begin(alloc, name)?;
+                let tag = self.begin(alloc, name, attributes)?;
                 self.rest = after;
-                Ok(Some(Given::Empty {
-                    name: text,
-                    attributes,
-                    place,
+                Ok(Some(Given {
+                    tag,
+                    ended: Some(place),
                 }))
             }
             Piece::End { name } => {
@@ -187,7 +177,10 @@ impl<'a> Scan<'a> {
                 }
                 self.open.pop();
                 self.rest = after;
-                Ok(Some(Given::End { place }))
+                Ok(Some(Given {
+                    tag: Tag::End { place },
+                    ended: None,
+                }))
             }
             Piece::Skipped => {
                 self.rest = after;

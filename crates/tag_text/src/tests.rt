@@ -234,3 +234,13 @@ fn an_attribute_is_found_by_its_name(rt: HostRuntime) -> Result<(), Fail> {
     }
     Ok(())
 }
+
+#[test]
+fn a_fault_says_its_place(rt: HostRuntime) -> Result<(), Fail> {
+    let fault = TagFault::Deep(96);
+    assert_eq!(rt;
+        format!(in rt.alloc(); "{fault}")?.as_str(),
+        "too many open elements at 96"
+    );
+    Ok(())
+}
