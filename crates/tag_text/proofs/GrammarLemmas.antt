@@ -7,15 +7,15 @@ use Rattle.std.specs.Str.Pattern.{LacksTextAt}
 use Rattle.std.proofs.lemmas.Bool.Decides.{nat_tests}
 use Rattle.std.proofs.lemmas.List.{append_assoc, length-append, take_at, drop_at}
 use Rattle.std.proofs.lemmas.List.Folds.{length-prefix_len, list_any_none}
-use Rattle.tag_text.specs.Octets.{is_blank, is_octet, is_name_start, is_name_octet, begins_name, drop_while, after_blanks, after_mark, after_first_mark, cut_at, name_at}
+use Rattle.tag_text.specs.Octets.{BeginsOther, is_blank, is_octet, is_name_start, is_name_octet, begins_name, drop_while, after_blanks, after_mark, after_first_mark, cut_at, name_at}
 use Rattle.tag_text.specs.Values.{is_quote, quoted_at, value_at}
 use Rattle.tag_text.specs.Pieces.{◌>>=◌, Piece, Start, Empty, End, Skipped, begins_blank, is_text_octet, attribute_at, with_first, attributes_within, attributes_at, tag_end_at, tag_of, tag_with, start_tag_at, end_tag_at, skipped, instruction_at, comment_at, text_at, piece_at}
 use Rattle.tag_text.specs.Attributes.{are_distinct}
-use Rattle.tag_text.specs.Grammar.{BeginsOther, IsBlanks, IsName, IsAttribute, IsAttributes, NoMore, OneMore, tag_end, IsTag, IsEndTag, IsEnclosed, IsLongest, text_test, IsPiece}
+use Rattle.tag_text.specs.Grammar.{IsBlanks, IsName, IsAttribute, IsAttributes, NoMore, OneMore, tag_end, IsTag, IsEndTag, IsEnclosed, IsLongest, text_test, IsPiece}
 use Rattle.tag_text.proofs.OctetLemmas.{by_test, begins, after_mark_splits, first_mark_at, has_first_mark}
 use Rattle.tag_text.proofs.PieceLemmas.{bind_some, test_some, either_some, skipped_some, HasName, has_name, has_attribute, has_tag_end, no_attribute, one_attribute, blanks_split, while_splits}
 
-both : (a b : Bool) → (a && b) ≡ true → (a ≡ true) × (b ≡ true)
+pub both : (a b : Bool) → (a && b) ≡ true → (a ≡ true) × (b ≡ true)
 both true b is = (refl, is)
 both false b is = cc is
 

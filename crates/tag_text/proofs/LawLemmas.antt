@@ -12,7 +12,7 @@ use Rattle.tag_text.specs.Document.{Left, State, Step, Goes, Stops, place_of, is
 use Rattle.tag_text.specs.Scan.{after_tags}
 use Rattle.tag_text.specs.Grammar.{IsPiece, IsLeft, Whole, Next, Misplaced, NoPiece, IsDocument}
 use Rattle.tag_text.proofs.PieceLemmas.{piece_less}
-use Rattle.tag_text.proofs.GrammarLemmas.{piece_is, is_piece}
+use Rattle.tag_text.proofs.GrammarLemmas.{both, piece_is, is_piece}
 use Rattle.tag_text.proofs.DocumentLemmas.{step_less, left_goes, left_stops}
 use Rattle.tag_text.proofs.ScanLemmas.{well_formed, ill_formed}
 
@@ -25,10 +25,6 @@ step_by s b o whole piece = rw (whole, piece) refl
 no_rest : (octets : List ℕ) → is_empty octets ≡ true → octets ≡ []
 no_rest [] is = refl
 no_rest (octet ∷ octets) is = cc is
-
-both : (a b : Bool) → (a && b) ≡ true → (a ≡ true) × (b ≡ true)
-both true b is = (refl, is)
-both false b is = cc is
 
 -- where the document is whole no piece is left
 whole_has_none : (s : State) (found : Piece × List ℕ) → is_whole s ≡ true → piece_at (is_inside s) s.rest ≡ Some found → ⊥

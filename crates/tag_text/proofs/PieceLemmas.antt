@@ -8,7 +8,7 @@ use Rattle.tag_text.specs.Octets.{is_blank, is_octet, is_name_octet, begins_name
 use Rattle.tag_text.specs.Values.{value_of, quoted_at, value_at, is_quote}
 use Rattle.tag_text.specs.Pieces.{Piece, End, Skipped, ◌>>=◌, or_else, begins_blank, is_text_octet, attribute_at, with_first, attributes_within, attributes_at, tag_end_at, tag_of, tag_with, start_tag_at, end_tag_at, skipped, instruction_at, comment_at, text_at, piece_at}
 use Rattle.tag_text.specs.Attributes.{are_distinct}
-use Rattle.tag_text.specs.Reading.{with_firsts}
+use Rattle.tag_text.specs.Pieces.{with_firsts}
 use Rattle.tag_text.proofs.OctetLemmas.{after_mark_splits, cut_is, has_first_mark}
 
 pub bind_some : {A B : Type 0} (o : Option A) (f : A → Option B) (y : B) → (o >>= f) ≡ Some y → (x : A) × (o ≡ Some x) × (f x ≡ Some y)

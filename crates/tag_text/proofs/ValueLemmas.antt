@@ -6,17 +6,13 @@ use Rattle.std.specs.Str.{IsCharBoundary}
 use Rattle.std.proofs.lemmas.List.Sums.{prefix_len-le-length, prefix_len_stops}
 use Rattle.std.proofs.lemmas.List.Folds.{length-prefix_len}
 use Rattle.std.proofs.lemmas.List.{length-drop, get_or-drop, append-nil, append_assoc}
-use Rattle.tag_text.proofs.OctetLemmas.{after_mark_splits, by_test}
-use Rattle.tag_text.specs.Reading.{BeginsNoBreak}
+use Rattle.tag_text.proofs.OctetLemmas.{after_mark_splits, by_test, by_not}
+use Rattle.tag_text.specs.Octets.{BeginsOther}
 use Rattle.tag_text.specs.Octets.{after_mark}
 use Rattle.tag_text.specs.Values.{is_break, space_for, spaced}
 
 break_is_ascii : (octet : ℕ) → is_break octet ≡ true → octet < 128
 break_is_ascii octet breaks = grind (arith, nat_tests)
-
-by_not : (b : Bool) → not b ≡ false → b ≡ true
-by_not true is = refl
-by_not false is = cc is
 
 space_for_plain : (octet : ℕ) → is_break octet ≡ false → space_for octet ≡ octet
 space_for_plain octet plain = ap (λ (b : Bool). cond b 32 octet) plain
@@ -60,7 +56,7 @@ line_end (octet ∷ text) = refl
 pub one_line_end : (text after : List ℕ) → after_mark (codes "\r\n") text ≡ Some after → spaced text ≡ 32 ∷ spaced after
 one_line_end text after found = ap spaced (after_mark_splits (codes "\r\n") text after found) ∙ line_end after
 
-pub no_break : (text : List ℕ) → ((octet : ℕ) (after : List ℕ) → octet < 128 → text ≢ octet ∷ after) → BeginsNoBreak text
+pub no_break : (text : List ℕ) → ((octet : ℕ) (after : List ℕ) → octet < 128 → text ≢ octet ∷ after) → BeginsOther is_break text
 no_break [] none = tt
 no_break (octet ∷ text) none = by_test (is_break octet) (λ breaks. none octet text (break_is_ascii octet breaks) refl)
 
@@ -96,7 +92,7 @@ plain_cut text n is = (
 pub cut_after_plain : (text : List ℕ) → IsCharBoundary text (length (take_while (λ octet. not (is_break octet)) text))
 cut_after_plain text = plain_cut text _ (length-prefix_len is_plain text)
 
-nothing_left : (text rest : List ℕ) (n : ℕ) → n ≡ prefix_len is_plain text → drop n text ≡ rest → BeginsNoBreak rest → rest ≡ []
+nothing_left : (text rest : List ℕ) (n : ℕ) → n ≡ prefix_len is_plain text → drop n text ≡ rest → BeginsOther is_break rest → rest ≡ []
 nothing_left text [] n is left none = refl
 nothing_left text (octet ∷ rest) n is left none =
     let inside : n < length text = omega (arith, ap length left, length-drop n text) in
@@ -106,7 +102,7 @@ nothing_left text (octet ∷ rest) n is left none =
     cc (breaks, none)
 
 -- the plain octets end at a break, or with the text
-pub plain_end : (text : List ℕ) → BeginsNoBreak (drop (length (take_while (λ octet. not (is_break octet)) text)) text)
+pub plain_end : (text : List ℕ) → BeginsOther is_break (drop (length (take_while (λ octet. not (is_break octet)) text)) text)
     → drop (length (take_while (λ octet. not (is_break octet)) text)) text ≡ []
 plain_end text none =
     nothing_left text (drop (length (take_while is_plain text)) text) (length (take_while is_plain text)) (length-prefix_len is_plain text) refl none

@@ -3,7 +3,7 @@ use Rattle.std.specs.Prelude.{◌≡◌, ℕ, ◌<◌, Bool, true, false, List, 
 use Rattle.std.specs.List.{list_all, list_any}
 use Rattle.std.specs.Str.{IsUtf8, IsValidUpTo}
 use Rattle.std.specs.Str.Pattern.{LacksTextAt}
-use Rattle.tag_text.specs.Octets.{is_blank, is_octet, is_name_octet, begins_name}
+use Rattle.tag_text.specs.Octets.{is_blank, is_octet, is_name_octet, begins_name, BeginsOther}
 use Rattle.tag_text.specs.Values.{is_quote, value_of}
 use Rattle.tag_text.specs.Attributes.{are_distinct}
 use Rattle.tag_text.specs.Pieces.{Piece, Start, Empty, End, Skipped, is_text_octet}
@@ -12,11 +12,6 @@ use Rattle.tag_text.specs.Scan.{after_tags, only}
 use Rattle.tag_text.specs.declared.tag.Tag.{Tag}
 use Rattle.tag_text.specs.declared.tag.TagFault.{TagFault}
 use Rattle.tag_text.specs.declared.tag.TagFault.TheVariants as fault
-
--- the text begins with no octet that passes the test
-abbrev pub BeginsOther : (ℕ → Bool) → List ℕ → Type 0
-BeginsOther test [] = Unit {0}
-BeginsOther test (octet ∷ text) = test octet ≡ false
 
 abbrev pub IsBlanks : List ℕ → Type 0
 IsBlanks blanks = list_all is_blank blanks ≡ true

@@ -5,6 +5,5 @@ pub mod PieceView
 pub mod Document
 pub mod Scan
 pub mod Attributes
-pub mod Reading
 pub mod Reader
 pub mod Grammar

@@ -1,5 +1,5 @@
 -- The classes of octets, and the parts of a text that stand at its front.
-use Rattle.std.specs.Prelude.{ℕ, ◌==◌, nat_lt, ◌&&◌, ◌||◌, Bool, false, if◌then◌else◌, List, [], ◌∷◌, length, take_while, drop, nat_eq, Option, Some, None}
+use Rattle.std.specs.Prelude.{◌≡◌, ℕ, ◌==◌, nat_lt, ◌&&◌, ◌||◌, Bool, false, if◌then◌else◌, List, [], ◌∷◌, length, take_while, drop, nat_eq, Option, Some, None}
 use Rattle.std.specs.List.{starts_with, list_any, before_first, after_first}
 
 -- space, tab, CR or LF
@@ -52,3 +52,8 @@ begins_name (octet ∷ text) = is_name_start octet
 -- the name at the front, as long as it goes, and what follows
 unfoldable pub name_at : List ℕ → Option (List ℕ × List ℕ)
 name_at text = if begins_name text then Some (take_while is_name_octet text, drop_while is_name_octet text) else None
+
+-- the text begins with no octet that passes the test
+abbrev pub BeginsOther : (ℕ → Bool) → List ℕ → Type 0
+BeginsOther test [] = Unit {0}
+BeginsOther test (octet ∷ text) = test octet ≡ false

@@ -1,5 +1,5 @@
 -- The pieces of a document: a tag, an instruction, a comment, a text, a run of blanks.
-use Rattle.std.specs.Prelude.{ℕ, zero, suc, Bool, true, false, not, if◌then◌else◌, List, [], ◌∷◌, length, codes, Option, Some, None}
+use Rattle.std.specs.Prelude.{ℕ, zero, suc, Bool, true, false, not, if◌then◌else◌, List, [], ◌∷◌, ◌++◌, length, codes, Option, Some, None}
 use Rattle.std.specs.Option.{option_map, option_and_then, option_map_or}
 use Rattle.tag_text.specs.Octets.{is_blank, is_octet, drop_while, after_blanks, after_mark, after_first_mark, name_at}
 use Rattle.tag_text.specs.Attributes.{are_distinct}
@@ -35,6 +35,10 @@ attribute_at text = if begins_blank text then (do
 
 abbrev pub with_first : {A B : Type 0} → A → List A × B → List A × B
 with_first x more = (x ∷ more.0, more.1)
+
+-- these before what is found later
+abbrev pub with_firsts : {A B : Type 0} → List A → List A × B → List A × B
+with_firsts xs more = (xs ++ more.0, more.1)
 
 -- the attributes at the front, as many as there are but no more than `most`, and what follows
 abbrev pub attributes_within : ℕ → List ℕ → List (List ℕ × List ℕ) × List ℕ

@@ -9,7 +9,7 @@ use Rattle.tag_text.specs.declared.tag.TagFault.{TagFault}
 use Rattle.tag_text.specs.declared.tag.TagFault.TheVariants as fault
 
 abbrev pub state_of : Scan → State
-state_of s = record { total = s.total; opened = s.open; begun = s.begun; rest = s.rest.now }
+state_of s = record { total = s.total; opened = s.elements; begun = s.begun; rest = s.rest.now }
 
 -- the end that comes right after a tag
 abbrev pub end_of : Option ℕ → List Tag

@@ -1,5 +1,5 @@
 -- The value of an attribute: its references resolved, each line end and tab a space.
-use Rattle.std.specs.Prelude.{ℕ, ◌+◌, ◌*◌, ◌==◌, nat_lt, ◌&&◌, ◌||◌, Bool, if◌then◌else◌, List, [], ◌∷◌, ◌++◌, drop, nat_eq, codes, encode_utf8, fold, Option, Some, None}
+use Rattle.std.specs.Prelude.{ℕ, ◌+◌, ◌*◌, ◌==◌, nat_lt, ◌&&◌, ◌||◌, Bool, if◌then◌else◌, List, [], ◌∷◌, ◌++◌, length, drop, nat_eq, codes, encode_utf8, fold, Option, Some, None}
 use Rattle.std.specs.Option.{option_map, option_and_then}
 use Rattle.std.specs.List.{starts_with, list_all, list_any, slice_split}
 use Rattle.std.specs.Char.{digit_value}
@@ -86,3 +86,13 @@ quoted_at (quote ∷ text) =
 -- the value in quotes at the front, and what follows
 unfoldable pub value_at : List ℕ → Option (List ℕ × List ℕ)
 value_at text = option_and_then (λ quoted. option_map (λ value. (value, quoted.1)) (value_of quoted.0)) (quoted_at text)
+
+-- the parts of a value that are left, each of which began after a `&`
+abbrev pub parts_left : Option (List ℕ) → List (List ℕ)
+parts_left None = []
+parts_left (Some rest) = slice_split (is_octet 38) rest
+
+-- more octets than any later part has
+abbrev pub octets_left : Option (List ℕ) → ℕ
+octets_left None = 0
+octets_left (Some rest) = length rest + 1

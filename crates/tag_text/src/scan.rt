@@ -17,7 +17,7 @@ pub(crate) struct Scan<'a> {
     total: usize,
     rest: &'a str,
     begun: bool,
-    open: Open<'a>,
+    elements: Open<'a>,
     ghost within: { length rest.now ≤ total },
 }
 
@@ -55,7 +55,7 @@ impl<'a> Scan<'a> {
     fn is_inside(&self) -> bool
         ensures inside { result ≡ is_inside (state_of self.now) }
     {
-        self.open.depth() > 0
+        self.elements.depth() > 0
     }
 
     // The document may end here.
@@ -75,9 +75,9 @@ impl<'a> Scan<'a> {
     // One more element may be open.
     fn has_room(&self) -> bool
         ensures room { result ≡ has_room (state_of self.now) }
-        ensures below { result ≡ true → length self.now.open < 32 }
+        ensures below { result ≡ true → length self.now.elements < 32 }
     {
-        self.open.depth() < MOST
+        self.elements.depth() < MOST
     }
 
     /// Before the first piece of this document.
@@ -88,7 +88,7 @@ impl<'a> Scan<'a> {
             total: text.len(),
             rest: after_order_mark(text),
             begun: false,
-            open: Open::new(),
+            elements: Open::new(),
         }
     }
 
@@ -159,7 +159,7 @@ impl<'a> Scan<'a> {
         match piece {
             Piece::Start { name, attributes } => {
                 let tag = self.begin(alloc, name, attributes)?;
-                self.open.push(name);
+                self.elements.push(name);
                 self.rest = after;
                 Ok(Some(Given { tag, ended: None }))
             }
@@ -172,10 +172,10 @@ impl<'a> Scan<'a> {
                 }))
             }
             Piece::End { name } => {
-                if self.open.depth() == 0 || self.open.last() != name {
+                if self.elements.depth() == 0 || self.elements.last() != name {
                     return Err(TagFault::Bad(place));
                 }
-                self.open.pop();
+                self.elements.pop();
                 self.rest = after;
                 Ok(Some(Given {
                     tag: Tag::End { place },

@@ -3,9 +3,8 @@
 ghost use Rattle.std.specs.Prelude.{◌≡◌, ◌+◌, ◌<◌, ◌≤◌, [], ◌∷◌, ◌++◌, length, take_while, not, IfSome, IfNone, IfOk, OnOk, string_bytes};
 ghost use Rattle.std.specs.Option.{option_map};
 ghost use Rattle.std.specs.List.{slice_split, list_any};
-ghost use Rattle.tag_text.specs.Octets.{is_octet};
-ghost use Rattle.tag_text.specs.Values.{is_break, spaced, number_of, character_of, reference_of, reference_at, value_of, value_at, quoted_at, is_quote};
-ghost use Rattle.tag_text.specs.Reading.{BeginsNoBreak, parts_left, octets_left};
+ghost use Rattle.tag_text.specs.Octets.{is_octet, BeginsOther};
+ghost use Rattle.tag_text.specs.Values.{is_break, spaced, number_of, character_of, reference_of, reference_at, value_of, value_at, quoted_at, is_quote, parts_left, octets_left};
 
 use crate::octets::{after_mark, cut_at, first_octet};
 use crate::text::Text;
@@ -34,7 +33,7 @@ fn plain_octets(text: &str) -> usize
 fn cut_at_break(text: &str) -> (&str, &str)
     ensures plain { spaced text.now ≡ result.0.now ++ spaced result.1.now }
     ensures rest { length result.1.now ≤ length text.now }
-    ensures end { BeginsNoBreak result.1.now → result.1.now ≡ [] }
+    ensures end { BeginsOther is_break result.1.now → result.1.now ≡ [] }
 {
     text.split_at(plain_octets(text))
 }
@@ -43,7 +42,7 @@ fn cut_at_break(text: &str) -> (&str, &str)
 fn after_break(text: &str) -> Option<&str>
     ensures after { IfSome result (λ after. spaced text.now ≡ 32 ∷ spaced after.now) }
     ensures less { IfSome result (λ after. length after.now < length text.now) }
-    ensures none { IfNone result (BeginsNoBreak text.now) }
+    ensures none { IfNone result (BeginsOther is_break text.now) }
 {
     if let Some(after) = after_mark("\r\n", text) {
         return Some(after);

@@ -1,7 +1,7 @@
 use Rattle.std.proofs.Common.{◌≡◌, length}
 use Rattle.std.specs.Str.{IsUtf8}
 use Rattle.tag_text.specs.Pieces.{attributes_at}
-use Rattle.tag_text.specs.Reading.{with_firsts}
+use Rattle.tag_text.specs.Pieces.{with_firsts}
 use Rattle.tag_text.proofs.piece.attributes_at.Given as goal
 
 -- the attributes so far and those of what is left are all

@@ -3,7 +3,7 @@ use Rattle.std.specs.Option.{option_map, IfSome}
 use Rattle.std.specs.Str.{IsUtf8}
 use Rattle.std.specs.String.{string_bytes}
 use Rattle.tag_text.specs.Values.{with_front, value_after, value_of}
-use Rattle.tag_text.specs.Reading.{parts_left, octets_left}
+use Rattle.tag_text.specs.Values.{parts_left, octets_left}
 use Rattle.tag_text.proofs.value.value_of.Given as goal
 
 -- what was appended and the value of the parts that are left are the whole value
