@@ -2,8 +2,12 @@
 //! and the text that rows are read from.
 #![tactic(auto)]
 
+mod faults;
+mod row_list;
 mod tables;
 mod types;
 
+pub use faults::BuildFault;
+pub use row_list::RowList;
 pub use tables::Tables;
 pub use types::{Channel, Lane, Level, Role, Row};

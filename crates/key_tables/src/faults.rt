@@ -1,0 +1,34 @@
+ghost use Rattle.key_tables.specs.declared.faults.BuildFault.TheVariants.{NoMemory};
+ghost use Rattle.std.specs.Prelude.{◌≡◌};
+
+use std::alloc::{AllocError, AllocFailed};
+use thiserror::Error;
+
+/// Why a list of rows is no tables.
+#[derive(Clone, Copy, Debug, Drop, PartialEq, Eq, Error)]
+pub enum BuildFault {
+    /// The row at this place, counted from 0, is of a group, a device, or a sender on a channel that a row before it is of.
+    #[error("row {0}, counted from 0, says again what a row before it says")]
+    Twice(usize),
+    /// As many rows as there may be of its kind stand before the row at this place.
+    #[error("row {0}, counted from 0, is one too many")]
+    TooMany(usize),
+    #[error("out of memory")]
+    NoMemory,
+}
+
+impl From<AllocError> for BuildFault {
+    ghost from_gives = { λ _ fault. fault ≡ NoMemory };
+
+    fn from(_error: AllocError) -> BuildFault {
+        BuildFault::NoMemory
+    }
+}
+
+impl<T: Drop> From<AllocFailed<T>> for BuildFault {
+    ghost from_gives = { λ _ fault. fault ≡ NoMemory };
+
+    fn from(_error: AllocFailed<T>) -> BuildFault {
+        BuildFault::NoMemory
+    }
+}

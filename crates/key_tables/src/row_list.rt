@@ -1,0 +1,98 @@
+ghost use Rattle.std.specs.Prelude.{◌≡◌, ◌++◌, ◌∷◌, [], None, false, IfErr, OnOk, OnErr};
+ghost use Rattle.key_tables.specs.Build.{is_full, is_repeated, is_kept, row_fault, first_fault, IsFault};
+
+use crate::{BuildFault, Row};
+use std::alloc::Global;
+use std::marker::Model;
+
+// So many rows of keys, and so many of roles, may stand in tables.
+const MOST_KEYS: usize = 4096;
+
+const MOST_ROLES: usize = 16384;
+
+/// Rows of which none says again what one before it says, and that are not too many.
+///
+/// A contract sees them as their list.
+#[derive(Drop)]
+pub struct RowList {
+    rows: Vec<Row>,
+    keys: usize,
+    roles: usize,
+}
+
+impl Model for RowList {
+    ghost use Rattle.std.specs.Prelude.{◌≡◌, List, length};
+    ghost use Rattle.std.specs.List.{filter};
+    ghost use Rattle.key_tables.specs.declared.types.Row.{Row};
+    ghost use Rattle.key_tables.specs.Build.{is_key, is_role};
+
+    ghost Value = { List Row };
+
+    ghost view = { λ list. list.rows.items };
+
+    ghost invariant = { λ list. (list.keys ≡ length (filter is_key list.rows.items)) × (list.roles ≡ length (filter is_role list.rows.items)) };
+}
+
+impl RowList {
+    pub(crate) fn new(alloc: Global) -> RowList
+        ensures { result ≡ [] }
+    {
+        RowList {
+            rows: Vec::new(alloc),
+            keys: 0,
+            roles: 0,
+        }
+    }
+
+    /// The rows, in their order.
+    pub fn as_slice(&self) -> &[Row]
+        ensures rows { result.now ≡ self.now }
+    {
+        &self.rows
+    }
+
+    /// Adds a row at the end, unless it may not stand there.
+    #[tactic(auto, unfolding(crate::specs::Build::row_fault))]
+    pub(crate) fn add(&mut self, row: Row) -> Result<(), BuildFault>
+        ensures added { OnOk result ((self.new ≡ self.old ++ row ∷ []) × (row_fault self.old row ≡ None)) }
+        ensures fault { IfErr result (λ fault. IsFault fault (row_fault self.old row)) }
+        ensures unchanged { OnErr result (self.new ≡ self.old) }
+    {
+        if self.is_repeated(&row) {
+            return Err(BuildFault::Twice(self.rows.len()));
+        }
+        if self.is_full(&row) {
+            return Err(BuildFault::TooMany(self.rows.len()));
+        }
+        self.push(row)
+    }
+
+    fn push(&mut self, row: Row) -> Result<(), BuildFault>
+        requires room { is_full self.old row ≡ false }
+        ensures pushed { OnOk result (self.new ≡ self.old ++ row ∷ []) }
+        ensures fault { IfErr result (λ fault. fault ≡ BuildFault.NoMemory) }
+        ensures unchanged { OnErr result (self.new ≡ self.old) }
+    {
+        self.rows.push(row)?;
+        match row {
+            Row::Role { .. } => self.roles += 1,
+            Row::Group { .. } | Row::Tool { .. } => self.keys += 1,
+        }
+        Ok(())
+    }
+
+    fn is_repeated(&self, row: &Row) -> bool
+        ensures { result ≡ is_repeated self.now row.now }
+    {
+        self.rows.iter().any(|earlier| row.repeats(earlier))
+    }
+
+    fn is_full(&self, row: &Row) -> bool
+        ensures { result ≡ is_full self.now row.now }
+    {
+        match row {
+            Row::Role { .. } => self.roles >= MOST_ROLES,
+            Row::Group { .. } | Row::Tool { .. } => self.keys >= MOST_KEYS,
+        }
+    }
+}
