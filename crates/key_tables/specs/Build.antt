@@ -55,6 +55,11 @@ abbrev pub first_fault : List Row → List Row → Option BuildFault
 first_fault before [] = None
 first_fault before (row ∷ rows) = option_or (row_fault before row) (first_fault (before ++ row ∷ []) rows)
 
+-- the rows were added one after another, and each may stand where it does
+pub record Adds (before now rows : List Row) : Type 0 where
+  pub are : now ≡ before ++ rows
+  pub stand : first_fault before rows ≡ None
+
 -- the fault of the first row that may not stand after those before it
 unfoldable pub build_fault : List Row → Option BuildFault
 build_fault rows = first_fault [] rows
@@ -79,9 +84,12 @@ displaces (row.Group address _ _) over = is_key_row (channel.Group address) over
 displaces (row.Tool device _) over = is_key_row (channel.Tool device) over
 displaces (row.Role channel _ _) over = is_channel channel (role_channel over)
 
--- no row of the list above says it
+-- a row of the list above says it
+abbrev pub is_displaced : List Row → Row → Bool
+is_displaced over row = list_any (displaces row) over
+
 abbrev pub is_kept : List Row → Row → Bool
-is_kept over row = not (list_any (displaces row) over)
+is_kept over row = not (is_displaced over row)
 
 -- All rows of the list above, and then those of the list below whose channel has no key, or no role, above.
 unfoldable pub merged : List Row → List Row → List Row

@@ -1,5 +1,6 @@
 ghost use Rattle.std.specs.Prelude.{◌≡◌, ◌++◌, ◌∷◌, [], None, false, IfErr, OnOk, OnErr};
-ghost use Rattle.key_tables.specs.Build.{is_full, is_repeated, is_kept, row_fault, first_fault, IsFault};
+ghost use Rattle.std.specs.List.{filter};
+ghost use Rattle.key_tables.specs.Build.{is_full, is_repeated, is_displaced, is_kept, row_fault, first_fault, Adds, IsFault};
 
 use crate::{BuildFault, Row};
 use std::alloc::Global;
@@ -67,6 +68,30 @@ impl RowList {
         self.push(row)
     }
 
+    // Adds the rows in turn, up to the first that may not stand.
+    pub(crate) fn add_all(&mut self, rows: &[Row]) -> Result<(), BuildFault>
+        ensures added { OnOk result (Adds self.old self.new rows.now) }
+        ensures fault { IfErr result (λ fault. IsFault fault (first_fault self.old rows.now)) }
+    {
+        'rows: for row in rows {
+            self.add(*row)?;
+        }
+        Ok(())
+    }
+
+    // The same of the rows that none of the rows over them displaces.
+    pub(crate) fn add_kept(&mut self, rows: &[Row], over: &[Row]) -> Result<(), BuildFault>
+        ensures added { OnOk result (Adds self.old self.new (filter (is_kept over.now) rows.now)) }
+        ensures fault { IfErr result (λ fault. IsFault fault (first_fault self.old (filter (is_kept over.now) rows.now))) }
+    {
+        'rows: for row in rows {
+            if !is_displaced(over, row) {
+                self.add(*row)?;
+            }
+        }
+        Ok(())
+    }
+
     fn push(&mut self, row: Row) -> Result<(), BuildFault>
         requires room { is_full self.old row ≡ false }
         ensures pushed { OnOk result (self.new ≡ self.old ++ row ∷ []) }
@@ -95,4 +120,10 @@ impl RowList {
             Row::Group { .. } | Row::Tool { .. } => self.keys >= MOST_KEYS,
         }
     }
+}
+
+fn is_displaced(over: &[Row], row: &Row) -> bool
+    ensures { result ≡ is_displaced over.now row.now }
+{
+    over.iter().any(|other| row.displaces(other))
 }
