@@ -7,7 +7,7 @@ use Rattle.std.proofs.lemmas.List.Elements.{filter-append, filter_more}
 use Rattle.key_tables.specs.declared.types.Row.{Row}
 use Rattle.key_tables.specs.declared.faults.BuildFault.{BuildFault}
 use Rattle.key_tables.specs.declared.faults.BuildFault.TheVariants.{Twice, TooMany, NoMemory}
-use Rattle.key_tables.specs.Build.{row_fault, first_fault, Adds, IsFault}
+use Rattle.key_tables.specs.Build.{row_fault, first_fault, build_fault, is_kept, merged, Adds, IsFault}
 
 or_assoc : {T : Type 0} (a b c : Option T) → option_or a (option_or b c) ≡ option_or (option_or a b) c
 or_assoc None b c = refl
@@ -19,16 +19,16 @@ pub first_fault-append : (before xs ys : List Row)
 first_fault-append before [] ys = ap (λ rows. first_fault rows ys) (sym (append-nil before))
 first_fault-append before (x ∷ xs) ys =
     ap (λ later. option_or (row_fault before x) later) (first_fault-append (before ++ x ∷ []) xs ys)
-        ∙ ap (λ rows. option_or (row_fault before x) (option_or (first_fault (before ++ x ∷ []) xs) (first_fault rows ys)))
-        (append_assoc before (x ∷ []) xs)
-        ∙ or_assoc (row_fault before x) (first_fault (before ++ x ∷ []) xs) (first_fault (before ++ x ∷ xs) ys)
+    ∙ ap (λ rows. option_or (row_fault before x) (option_or (first_fault (before ++ x ∷ []) xs) (first_fault rows ys)))
+    (append_assoc before (x ∷ []) xs)
+    ∙ or_assoc (row_fault before x) (first_fault (before ++ x ∷ []) xs) (first_fault (before ++ x ∷ xs) ys)
 
 -- what is still to be added is judged after what was added
 first_after : (before now xs ys : List Row) → Adds before now xs → first_fault before (xs ++ ys) ≡ first_fault now ys
 first_after before now xs ys added =
     first_fault-append before xs ys
-        ∙ ap (λ earlier. option_or earlier (first_fault (before ++ xs) ys)) added.stand
-        ∙ ap (λ rows. first_fault rows ys) (sym added.are)
+    ∙ ap (λ earlier. option_or earlier (first_fault (before ++ xs) ys)) added.stand
+    ∙ ap (λ rows. first_fault rows ys) (sym added.are)
 
 adds_one : (before now new xs : List Row) (row : Row) → Adds before now xs → new ≡ now ++ row ∷ []
     → row_fault now row ≡ None → Adds before new (xs ++ row ∷ [])
@@ -46,14 +46,14 @@ stops_at : (before now xs ys : List Row) (row : Row) (fault : BuildFault) → Ad
     → IsFault fault (first_fault before (xs ++ row ∷ ys))
 stops_at before now xs ys row fault added h =
     subst (λ found. IsFault fault found) (sym (first_after before now xs (row ∷ ys) added))
-        (is_first fault (row_fault now row) (first_fault (now ++ row ∷ []) ys) h)
+    (is_first fault (row_fault now row) (first_fault (now ++ row ∷ []) ys) h)
 
 split_at : (rows : List Row) (i : ℕ) (d : Row) → i < length rows
     → rows ≡ take i rows ++ slice_index_or rows i d ∷ drop (i + 1) rows
 split_at rows i d within =
     sym (take-append-drop (i + 1) rows)
-        ∙ ap (λ front. front ++ drop (i + 1) rows) (take_more rows i d within)
-        ∙ append_assoc (take i rows) (slice_index_or rows i d ∷ []) (drop (i + 1) rows)
+    ∙ ap (λ front. front ++ drop (i + 1) rows) (take_more rows i d within)
+    ∙ append_assoc (take i rows) (slice_index_or rows i d ∷ []) (drop (i + 1) rows)
 
 -- ---- a loop that adds all rows
 
@@ -62,14 +62,14 @@ pub more_added : (before now new rows : List Row) (i : ℕ) (d : Row) → i < le
     → Adds before new (take (i + 1) rows)
 more_added before now new rows i d within added pushed stands =
     subst (λ xs. Adds before new xs) (sym (take_more rows i d within))
-        (adds_one before now new (take i rows) (slice_index_or rows i d) added pushed stands)
+    (adds_one before now new (take i rows) (slice_index_or rows i d) added pushed stands)
 
 pub stops_adding : (before now rows : List Row) (i : ℕ) (d : Row) (fault : BuildFault) → i < length rows
     → Adds before now (take i rows) → IsFault fault (row_fault now (slice_index_or rows i d))
     → IsFault fault (first_fault before rows)
 stops_adding before now rows i d fault within added h =
     subst (λ xs. IsFault fault (first_fault before xs)) (sym (split_at rows i d within))
-        (stops_at before now (take i rows) (drop (i + 1) rows) (slice_index_or rows i d) fault added h)
+    (stops_at before now (take i rows) (drop (i + 1) rows) (slice_index_or rows i d) fault added h)
 
 -- ---- a loop that adds the rows that pass a test
 
@@ -81,8 +81,8 @@ more_kept p before now new rows i d within kept added pushed stands =
     let row = slice_index_or rows i d in
     let front = filter p (take i rows) in
     subst (λ xs. Adds before new xs)
-        (sym (filter_more p rows i d within ∙ ap (λ b. front ++ cond b (row ∷ []) []) kept))
-        (adds_one before now new front row added pushed stands)
+    (sym (filter_more p rows i d within ∙ ap (λ b. front ++ cond b (row ∷ []) []) kept))
+    (adds_one before now new front row added pushed stands)
 
 pub none_kept : (p : Row → Bool) (before now rows : List Row) (i : ℕ) (d : Row) → i < length rows
     → p (slice_index_or rows i d) ≡ false → Adds before now (filter p (take i rows))
@@ -91,8 +91,8 @@ none_kept p before now rows i d within dropped added =
     let row = slice_index_or rows i d in
     let front = filter p (take i rows) in
     subst (λ xs. Adds before now xs)
-        (sym (filter_more p rows i d within ∙ ap (λ b. front ++ cond b (row ∷ []) []) dropped ∙ append-nil front))
-        added
+    (sym (filter_more p rows i d within ∙ ap (λ b. front ++ cond b (row ∷ []) []) dropped ∙ append-nil front))
+    added
 
 pub stops_keeping : (p : Row → Bool) (before now rows : List Row) (i : ℕ) (d : Row) (fault : BuildFault) → i < length rows
     → p (slice_index_or rows i d) ≡ true → Adds before now (filter p (take i rows))
@@ -102,8 +102,29 @@ stops_keeping p before now rows i d fault within kept added h =
     let front = filter p (take i rows) in
     let later = filter p (drop (i + 1) rows) in
     let whole : filter p rows ≡ front ++ row ∷ later =
-        ap (filter p) (split_at rows i d within)
-            ∙ filter-append p (take i rows) (row ∷ drop (i + 1) rows)
-            ∙ ap (λ b. front ++ cond b (row ∷ later) later) kept
+    ap (filter p) (split_at rows i d within)
+    ∙ filter-append p (take i rows) (row ∷ drop (i + 1) rows)
+    ∙ ap (λ b. front ++ cond b (row ∷ later) later) kept
     in
     subst (λ xs. IsFault fault (first_fault before xs)) (sym whole) (stops_at before now front later row fault added h)
+
+-- ---- the rows of two lists, merged
+
+pub merge_added : (over under first both : List Row) → Adds [] first over → Adds first both (filter (is_kept over) under)
+    → build_fault (merged over under) ≡ None
+unfolding build_fault merged
+merge_added over under first both above below =
+    first_after [] first over (filter (is_kept over) under) above ∙ below.stand
+
+pub stops_above : (over under : List Row) (fault : BuildFault) → IsFault fault (first_fault [] over)
+    → IsFault fault (build_fault (merged over under))
+unfolding build_fault merged
+stops_above over under fault h =
+    subst (λ found. IsFault fault found) (sym (first_fault-append [] over (filter (is_kept over) under)))
+    (is_first fault (first_fault [] over) (first_fault over (filter (is_kept over) under)) h)
+
+pub stops_below : (over under first : List Row) (fault : BuildFault) → Adds [] first over
+    → IsFault fault (first_fault first (filter (is_kept over) under)) → IsFault fault (build_fault (merged over under))
+unfolding build_fault merged
+stops_below over under first fault above h =
+    subst (λ found. IsFault fault found) (sym (first_after [] first over (filter (is_kept over) under) above)) h

@@ -1,14 +1,13 @@
 -- Which lists of rows are tables, and how two lists are merged.
-use Rattle.std.specs.Prelude.{◌≡◌, ℕ, ◌+◌, ◌||◌, nat_le, not, Bool, true, false, if◌then◌else◌, List, [], ◌∷◌, ◌++◌, length, Option, Some, None, Result, MatchResult}
+use Rattle.std.specs.Prelude.{◌≡◌, ℕ, nat_le, not, Bool, true, false, if◌then◌else◌, List, [], ◌∷◌, ◌++◌, length, Option, Some, None}
 use Rattle.std.specs.Option.{option_or}
 use Rattle.std.specs.List.{list_any, filter}
-use Rattle.key_tables.specs.declared.types.Channel.{Channel}
 use Rattle.key_tables.specs.declared.types.Channel.TheVariants as channel
 use Rattle.key_tables.specs.declared.types.Row.{Row}
 use Rattle.key_tables.specs.declared.types.Row.TheVariants as row
 use Rattle.key_tables.specs.declared.faults.BuildFault.{BuildFault}
 use Rattle.key_tables.specs.declared.faults.BuildFault.TheVariants.{Twice, TooMany, NoMemory}
-use Rattle.key_tables.specs.Rows.{same_channel, role_channel, is_channel, is_key_row, is_role_row}
+use Rattle.key_tables.specs.Rows.{role_channel, is_channel, is_key_row, is_role_row}
 
 -- ---- limits
 
@@ -68,13 +67,6 @@ build_fault rows = first_fault [] rows
 abbrev pub IsFault : BuildFault → Option BuildFault → Type 0
 IsFault NoMemory found = Unit {0}
 IsFault fault found = found ≡ Some fault
-
--- the rows are tables, or the fault is that of the first row that may not stand
-abbrev pub Builds : List Row → Result (List Row) BuildFault → Type 0
-Builds rows result =
-    MatchResult result
-    (λ tables. (tables ≡ rows) × (build_fault rows ≡ None))
-    (λ fault. IsFault fault (build_fault rows))
 
 -- ---- merging
 

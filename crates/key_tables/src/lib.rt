@@ -3,6 +3,7 @@
 #![tactic(auto)]
 
 mod faults;
+mod key_row;
 mod row_list;
 mod tables;
 mod types;

@@ -1,9 +1,14 @@
-ghost use Rattle.std.specs.Prelude.{◌≡◌, find, None, Some};
+ghost use Rattle.std.specs.Prelude.{◌≡◌, find, None, Some, IfOk, IfErr, IsOk};
 ghost use Rattle.std.specs.Option.{option_map, option_or};
+ghost use Rattle.key_tables.specs.Build.{build_fault, merged, IsFault};
+ghost use Rattle.key_tables.specs.Expanded.{expanded_keys, is_of};
 ghost use Rattle.key_tables.specs.Rows.{is_key_row, is_role_row, key_of, level_of, named_role, role_of, channel_of, device_role, keyed};
 
-use crate::{Channel, Level, Role, Row};
+use crate::key_row::{KeyRow, expanded};
+use crate::{BuildFault, Channel, Level, Role, Row, RowList};
+use aes_modes::Key128;
 use knx_base::{GroupAddr, IndAddr};
+use std::alloc::{AllocError, Global};
 use std::marker::Model;
 
 /// The rows of an installation. No channel has two keys, and no sender two roles on one channel.
@@ -11,25 +16,71 @@ use std::marker::Model;
 /// A contract sees them as their list.
 #[derive(Drop)]
 pub struct Tables {
-    rows: Vec<Row>,
+    list: RowList,
+    keys: Vec<KeyRow>,
 }
 
 impl Model for Tables {
-    ghost use Rattle.std.specs.Prelude.{List};
+    ghost use Rattle.std.specs.Prelude.{◌≡◌, List};
     ghost use Rattle.key_tables.specs.declared.types.Row.{Row};
+    ghost use Rattle.key_tables.specs.Expanded.{expanded_keys};
 
     ghost Value = { List Row };
 
-    ghost view = { λ tables. tables.rows.items };
+    ghost view = { λ tables. tables.list };
+
+    ghost invariant = { λ tables. tables.keys.items ≡ expanded_keys tables.list };
 }
 
 impl Tables {
+    /// The rows as tables, unless one may not stand after those before it: then the fault is that of the first such row.
+    #[tactic(auto, unfolding(crate::specs::Build::build_fault))]
+    pub fn build(alloc: Global, rows: &[Row]) -> Result<Tables, BuildFault>
+        ensures rows { IfOk result (λ tables. tables ≡ rows.now) }
+        ensures stand { IsOk result → build_fault rows.now ≡ None }
+        ensures fault { IfErr result (λ fault. IsFault fault (build_fault rows.now)) }
+    {
+        let mut list = RowList::new(alloc);
+        list.add_all(rows)?;
+        Tables::expanded(alloc, list)
+    }
+
+    /// The rows of `over`, and after them those key rows of `under` whose channel has no key in `over`, and those role rows whose
+    /// channel has no role in `over`, in their order. The place in a fault is counted in that list.
+    #[tactic(auto, unfolding(crate::specs::Build::build_fault, crate::specs::Build::merged))]
+    pub fn merge(alloc: Global, over: &[Row], under: &[Row]) -> Result<Tables, BuildFault>
+        ensures rows { IfOk result (λ tables. tables ≡ merged over.now under.now) }
+        ensures stand { IsOk result → build_fault (merged over.now under.now) ≡ None }
+        ensures fault { IfErr result (λ fault. IsFault fault (build_fault (merged over.now under.now))) }
+    {
+        let mut list = RowList::new(alloc);
+        list.add_all(over)?;
+        list.add_kept(under, over)?;
+        Tables::expanded(alloc, list)
+    }
+
+    fn expanded(alloc: Global, list: RowList) -> Result<Tables, BuildFault>
+        ensures rows { IfOk result (λ tables. tables ≡ list) }
+        ensures fault { IfErr result (λ fault. fault ≡ BuildFault.NoMemory) }
+    {
+        let keys = expanded_keys(alloc, list.as_slice())?;
+        Ok(Tables { list, keys })
+    }
+
     /// The key of a channel.
     #[tactic(auto, unfolding(crate::specs::Rows::key_of))]
     pub fn key(&self, channel: Channel) -> Option<[u8; 16]>
         ensures key { result ≡ key_of self.now channel }
     {
-        key_row(&self.rows, channel)?.key()
+        key_row(self.list.as_slice(), channel)?.key()
+    }
+
+    /// The key of a channel, with its round keys.
+    pub fn expanded_key(&self, channel: Channel) -> Option<&Key128>
+        ensures key { option_map (λ key. key.now) result ≡ key_of self.now channel }
+    {
+        let row = key_named(&self.keys, channel)?;
+        Some(&row.key)
     }
 
     /// The level of a channel that has a key.
@@ -37,7 +88,7 @@ impl Tables {
     pub fn level(&self, channel: Channel) -> Option<Level>
         ensures level { result ≡ level_of self.now channel }
     {
-        key_row(&self.rows, channel)?.level()
+        key_row(self.list.as_slice(), channel)?.level()
     }
 
     /// The role of a sender on a channel: its own row's, else that of the row for any sender, else Observe for the device whose
@@ -66,7 +117,7 @@ impl Tables {
     fn named_role(&self, channel: Channel, sender: Option<IndAddr>) -> Option<Role>
         ensures { result ≡ named_role self.now channel sender }
     {
-        role_row(&self.rows, channel, sender)?.role()
+        role_row(self.list.as_slice(), channel, sender)?.role()
     }
 
     /// The channel of a frame. Without tool access it is the destination, where that is a group with a key. With tool access
@@ -102,6 +153,18 @@ impl Tables {
     {
         self.key(channel).and(Some(channel))
     }
+}
+
+fn expanded_keys(alloc: Global, rows: &[Row]) -> Result<Vec<KeyRow>, AllocError>
+    ensures keys { IfOk result (λ keys. keys.items ≡ expanded_keys rows.now) }
+{
+    rows.iter().filter_map(expanded).collect(alloc)
+}
+
+fn key_named(keys: &[KeyRow], channel: Channel) -> Option<&KeyRow>
+    ensures { option_map (λ key. key.now) result ≡ find (is_of channel) keys.now }
+{
+    keys.iter().find(|key| key.is_of(channel))
 }
 
 fn own_role(channel: Channel, sender: IndAddr) -> Option<Role>
