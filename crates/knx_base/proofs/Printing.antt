@@ -34,8 +34,7 @@ pub prints_then : {T E : Type 0} (old mid new : Option (List ℕ)) (result : Res
 prints_then old mid new (Ok x) front back before printed =
     printed ∙ ap (λ known. append_known known back) before ∙ append_known-append old front back
 prints_then old mid new (Err e) front back before printed =
-    let begun = printed.0 in
-    (
+    let begun = printed.0 in (
       front ++ begun,
       (printed.1.0, append_assoc front begun printed.1.0 ∙ ap (λ both. front ++ both) printed.1.1),
       printed.2 ∙ ap (λ known. append_known known begun) before ∙ append_known-append old front begun,
