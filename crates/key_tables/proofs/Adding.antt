@@ -4,37 +4,22 @@ use Rattle.std.specs.Option.{option_or}
 use Rattle.std.specs.List.{filter}
 use Rattle.std.proofs.lemmas.List.{take_more}
 use Rattle.std.proofs.lemmas.List.Elements.{filter-append, filter_more}
+use Rattle.key_tables.proofs.Firsts.{first_of-append, first_after}
 use Rattle.key_tables.specs.declared.types.Row.{Row}
 use Rattle.key_tables.specs.declared.faults.BuildFault.{BuildFault}
 use Rattle.key_tables.specs.declared.faults.BuildFault.TheVariants.{Twice, TooMany, NoMemory}
 use Rattle.key_tables.specs.Build.{row_fault, first_fault, build_fault, is_kept, merged, Adds, IsFault}
 
-or_assoc : {T : Type 0} (a b c : Option T) → option_or a (option_or b c) ≡ option_or (option_or a b) c
-or_assoc None b c = refl
-or_assoc (Some x) b c = refl
-
--- the rows of two lists are judged in turn
-pub first_fault-append : (before xs ys : List Row)
-    → first_fault before (xs ++ ys) ≡ option_or (first_fault before xs) (first_fault (before ++ xs) ys)
-first_fault-append before [] ys = ap (λ rows. first_fault rows ys) (sym (append-nil before))
-first_fault-append before (x ∷ xs) ys =
-    ap (λ later. option_or (row_fault before x) later) (first_fault-append (before ++ x ∷ []) xs ys)
-    ∙ ap (λ rows. option_or (row_fault before x) (option_or (first_fault (before ++ x ∷ []) xs) (first_fault rows ys)))
-    (append_assoc before (x ∷ []) xs)
-    ∙ or_assoc (row_fault before x) (first_fault (before ++ x ∷ []) xs) (first_fault (before ++ x ∷ xs) ys)
-
 -- what is still to be added is judged after what was added
-first_after : (before now xs ys : List Row) → Adds before now xs → first_fault before (xs ++ ys) ≡ first_fault now ys
-first_after before now xs ys added =
-    first_fault-append before xs ys
-    ∙ ap (λ earlier. option_or earlier (first_fault (before ++ xs) ys)) added.stand
-    ∙ ap (λ rows. first_fault rows ys) (sym added.are)
+after_added : (before now xs ys : List Row) → Adds before now xs → first_fault before (xs ++ ys) ≡ first_fault now ys
+after_added before now xs ys added =
+    first_after row_fault before xs ys added.stand ∙ ap (λ rows. first_fault rows ys) (sym added.are)
 
 adds_one : (before now new xs : List Row) (row : Row) → Adds before now xs → new ≡ now ++ row ∷ []
     → row_fault now row ≡ None → Adds before new (xs ++ row ∷ [])
 adds_one before now new xs row added pushed stands = record {
   are = pushed ∙ ap (λ rows. rows ++ row ∷ []) added.are ∙ append_assoc before xs (row ∷ []);
-  stand = first_after before now xs (row ∷ []) added ∙ ap (λ fault. option_or fault None) stands;
+  stand = after_added before now xs (row ∷ []) added ∙ ap (λ fault. option_or fault None) stands;
 }
 
 is_first : (fault : BuildFault) (found later : Option BuildFault) → IsFault fault found → IsFault fault (option_or found later)
@@ -45,7 +30,7 @@ is_first (TooMany i) found later h = ap (λ o. option_or o later) h
 stops_at : (before now xs ys : List Row) (row : Row) (fault : BuildFault) → Adds before now xs → IsFault fault (row_fault now row)
     → IsFault fault (first_fault before (xs ++ row ∷ ys))
 stops_at before now xs ys row fault added h =
-    subst (λ found. IsFault fault found) (sym (first_after before now xs (row ∷ ys) added))
+    subst (λ found. IsFault fault found) (sym (after_added before now xs (row ∷ ys) added))
     (is_first fault (row_fault now row) (first_fault (now ++ row ∷ []) ys) h)
 
 split_at : (rows : List Row) (i : ℕ) (d : Row) → i < length rows
@@ -114,17 +99,17 @@ pub merge_added : (over under first both : List Row) → Adds [] first over → 
     → build_fault (merged over under) ≡ None
 unfolding build_fault merged
 merge_added over under first both above below =
-    first_after [] first over (filter (is_kept over) under) above ∙ below.stand
+    after_added [] first over (filter (is_kept over) under) above ∙ below.stand
 
 pub stops_above : (over under : List Row) (fault : BuildFault) → IsFault fault (first_fault [] over)
     → IsFault fault (build_fault (merged over under))
 unfolding build_fault merged
 stops_above over under fault h =
-    subst (λ found. IsFault fault found) (sym (first_fault-append [] over (filter (is_kept over) under)))
+    subst (λ found. IsFault fault found) (sym (first_of-append row_fault [] over (filter (is_kept over) under)))
     (is_first fault (first_fault [] over) (first_fault over (filter (is_kept over) under)) h)
 
 pub stops_below : (over under first : List Row) (fault : BuildFault) → Adds [] first over
     → IsFault fault (first_fault first (filter (is_kept over) under)) → IsFault fault (build_fault (merged over under))
 unfolding build_fault merged
 stops_below over under first fault above h =
-    subst (λ found. IsFault fault found) (sym (first_after [] first over (filter (is_kept over) under) above)) h
+    subst (λ found. IsFault fault found) (sym (after_added [] first over (filter (is_kept over) under) above)) h

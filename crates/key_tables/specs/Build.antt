@@ -1,12 +1,12 @@
 -- Which lists of rows are tables, and how two lists are merged.
 use Rattle.std.specs.Prelude.{◌≡◌, ℕ, nat_le, not, Bool, true, false, if◌then◌else◌, List, [], ◌∷◌, ◌++◌, length, Option, Some, None}
-use Rattle.std.specs.Option.{option_or}
 use Rattle.std.specs.List.{list_any, filter}
 use Rattle.key_tables.specs.declared.types.Channel.TheVariants as channel
 use Rattle.key_tables.specs.declared.types.Row.{Row}
 use Rattle.key_tables.specs.declared.types.Row.TheVariants as row
 use Rattle.key_tables.specs.declared.faults.BuildFault.{BuildFault}
 use Rattle.key_tables.specs.declared.faults.BuildFault.TheVariants.{Twice, TooMany, NoMemory}
+use Rattle.key_tables.specs.First.{first_of}
 use Rattle.key_tables.specs.Rows.{role_channel, is_channel, is_key_row, is_role_row}
 
 -- ---- limits
@@ -51,8 +51,7 @@ row_fault before row =
 
 -- of rows that are to stand after others, the fault of the first that may not
 abbrev pub first_fault : List Row → List Row → Option BuildFault
-first_fault before [] = None
-first_fault before (row ∷ rows) = option_or (row_fault before row) (first_fault (before ++ row ∷ []) rows)
+first_fault before rows = first_of row_fault before rows
 
 -- the rows were added one after another, and each may stand where it does
 pub record Adds (before now rows : List Row) : Type 0 where
