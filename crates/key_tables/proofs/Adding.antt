@@ -1,5 +1,5 @@
 -- Rows that are added to a list one after another.
-use Rattle.std.proofs.Common.{◌≡◌, ℕ, ◌+◌, ◌<◌, List, [], ◌∷◌, ◌++◌, length, take, drop, Option, Some, None, Bool, true, false, cond, refl, sym, ap, subst, ◌∙◌, append_assoc, append-nil, take-append-drop, slice_index_or}
+use Rattle.std.proofs.Common.{◌≡◌, ℕ, ◌+◌, ◌<◌, List, [], ◌∷◌, ◌++◌, length, take, drop, Option, None, Bool, true, false, cond, not, arith, length-append, sym, ap, subst, ◌∙◌, append_assoc, append-nil, take-append-drop, slice_index_or}
 use Rattle.std.specs.Option.{option_or}
 use Rattle.std.specs.List.{filter}
 use Rattle.std.proofs.lemmas.List.{take_more}
@@ -8,12 +8,41 @@ use Rattle.key_tables.proofs.Firsts.{first_of-append, first_after}
 use Rattle.key_tables.specs.declared.types.Row.{Row}
 use Rattle.key_tables.specs.declared.faults.BuildFault.{BuildFault}
 use Rattle.key_tables.specs.declared.faults.BuildFault.TheVariants.{Twice, TooMany, NoMemory}
-use Rattle.key_tables.specs.Build.{row_fault, first_fault, build_fault, is_kept, merged, Adds, IsFault}
+use Rattle.key_tables.specs.Build.{row_fault, first_fault, build_fault, is_key, is_role, is_kept, merged, Adds, IsCounted, IsFault}
 
 -- what is still to be added is judged after what was added
 after_added : (before now xs ys : List Row) → Adds before now xs → first_fault before (xs ++ ys) ≡ first_fault now ys
 after_added before now xs ys added =
     first_after row_fault before xs ys added.stand ∙ ap (λ rows. first_fault rows ys) (sym added.are)
+
+one_more_stands : (rows : List Row) (row : Row) → build_fault rows ≡ None → row_fault rows row ≡ None
+    → build_fault (rows ++ row ∷ []) ≡ None
+unfolding build_fault
+one_more_stands rows row all one =
+    first_after row_fault [] rows (row ∷ []) all ∙ ap (λ fault. option_or fault None) one
+
+one_more_passes : (p : Row → Bool) (rows : List Row) (row : Row)
+    → length (filter p (rows ++ row ∷ [])) ≡ length (filter p rows) + length (cond (p row) (row ∷ []) [])
+one_more_passes p rows row =
+    ap length (filter-append p rows (row ∷ [])) ∙ length-append (filter p rows) (cond (p row) (row ∷ []) [])
+
+pub one_more_key : (rows now : List Row) (row : Row) (keys roles : ℕ) → now ≡ rows ++ row ∷ [] → is_key row ≡ true
+    → row_fault rows row ≡ None → IsCounted rows keys roles → IsCounted now (keys + 1) roles
+one_more_key rows now row keys roles pushed kind stands counted =
+    subst (λ list. IsCounted list (keys + 1) roles) (sym pushed) (record {
+      stand = one_more_stands rows row counted.stand stands;
+      keys_are = omega (arith, counted.keys_are, one_more_passes is_key rows row, ap (λ b. length (cond b (row ∷ []) [])) kind);
+      roles_are = omega (arith, counted.roles_are, one_more_passes is_role rows row, ap (λ b. length (cond (not b) (row ∷ []) [])) kind);
+    })
+
+pub one_more_role : (rows now : List Row) (row : Row) (keys roles : ℕ) → now ≡ rows ++ row ∷ [] → is_key row ≡ false
+    → row_fault rows row ≡ None → IsCounted rows keys roles → IsCounted now keys (roles + 1)
+one_more_role rows now row keys roles pushed kind stands counted =
+    subst (λ list. IsCounted list keys (roles + 1)) (sym pushed) (record {
+      stand = one_more_stands rows row counted.stand stands;
+      keys_are = omega (arith, counted.keys_are, one_more_passes is_key rows row, ap (λ b. length (cond b (row ∷ []) [])) kind);
+      roles_are = omega (arith, counted.roles_are, one_more_passes is_role rows row, ap (λ b. length (cond (not b) (row ∷ []) [])) kind);
+    })
 
 adds_one : (before now new xs : List Row) (row : Row) → Adds before now xs → new ≡ now ++ row ∷ []
     → row_fault now row ≡ None → Adds before new (xs ++ row ∷ [])

@@ -1,5 +1,5 @@
 -- Which lists of rows are tables, and how two lists are merged.
-use Rattle.std.specs.Prelude.{◌≡◌, ℕ, nat_le, not, Bool, true, false, if◌then◌else◌, List, [], ◌∷◌, ◌++◌, length, Option, Some, None}
+use Rattle.std.specs.Prelude.{◌≡◌, ℕ, nat_le, not, Bool, true, false, if◌then◌else◌, List, [], ◌++◌, length, Option, Some, None}
 use Rattle.std.specs.List.{list_any, filter}
 use Rattle.key_tables.specs.declared.types.Channel.TheVariants as channel
 use Rattle.key_tables.specs.declared.types.Row.{Row}
@@ -61,6 +61,12 @@ pub record Adds (before now rows : List Row) : Type 0 where
 -- the fault of the first row that may not stand after those before it
 unfoldable pub build_fault : List Row → Option BuildFault
 build_fault rows = first_fault [] rows
+
+-- every row may stand, and so many of them are of keys and of roles
+pub record IsCounted (rows : List Row) (keys roles : ℕ) : Type 0 where
+  pub stand : build_fault rows ≡ None
+  pub keys_are : keys ≡ length (filter is_key rows)
+  pub roles_are : roles ≡ length (filter is_role rows)
 
 -- it is this fault that was found, or memory was wanting
 abbrev pub IsFault : BuildFault → Option BuildFault → Type 0

@@ -1,6 +1,6 @@
 ghost use Rattle.std.specs.Prelude.{◌≡◌, ◌++◌, ◌∷◌, [], None, false, IfErr, OnOk, OnErr};
 ghost use Rattle.std.specs.List.{filter};
-ghost use Rattle.key_tables.specs.Build.{is_full, is_repeated, is_displaced, is_kept, row_fault, first_fault, Adds, IsFault};
+ghost use Rattle.key_tables.specs.Build.{is_full, is_repeated, is_displaced, is_kept, row_fault, first_fault, build_fault, Adds, IsFault};
 
 use crate::{BuildFault, Row};
 use std::alloc::Global;
@@ -22,19 +22,19 @@ pub struct RowList {
 }
 
 impl Model for RowList {
-    ghost use Rattle.std.specs.Prelude.{◌≡◌, List, length};
-    ghost use Rattle.std.specs.List.{filter};
+    ghost use Rattle.std.specs.Prelude.{List};
     ghost use Rattle.key_tables.specs.declared.types.Row.{Row};
-    ghost use Rattle.key_tables.specs.Build.{is_key, is_role};
+    ghost use Rattle.key_tables.specs.Build.{IsCounted};
 
     ghost Value = { List Row };
 
     ghost view = { λ list. list.rows.items };
 
-    ghost invariant = { λ list. (list.keys ≡ length (filter is_key list.rows.items)) × (list.roles ≡ length (filter is_role list.rows.items)) };
+    ghost invariant = { λ list. IsCounted list.rows.items list.keys list.roles };
 }
 
 impl RowList {
+    #[tactic(auto, unfolding(crate::specs::Build::build_fault))]
     pub(crate) fn new(alloc: Global) -> RowList
         ensures { result ≡ [] }
     {
@@ -48,6 +48,7 @@ impl RowList {
     /// The rows, in their order.
     pub fn as_slice(&self) -> &[Row]
         ensures rows { result.now ≡ self.now }
+        ensures stand { build_fault self.now ≡ None }
     {
         &self.rows
     }
@@ -94,6 +95,7 @@ impl RowList {
 
     fn push(&mut self, row: Row) -> Result<(), BuildFault>
         requires room { is_full self.old row ≡ false }
+        requires stands { row_fault self.old row ≡ None }
         ensures pushed { OnOk result (self.new ≡ self.old ++ row ∷ []) }
         ensures fault { IfErr result (λ fault. fault ≡ BuildFault.NoMemory) }
         ensures unchanged { OnErr result (self.new ≡ self.old) }
