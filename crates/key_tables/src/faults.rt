@@ -1,6 +1,7 @@
 ghost use Rattle.key_tables.specs.declared.faults.BuildFault.TheVariants.{NoMemory};
 ghost use Rattle.std.specs.Prelude.{◌≡◌};
 
+use knx_base::Cause;
 use std::alloc::{AllocError, AllocFailed};
 use thiserror::Error;
 
@@ -31,4 +32,19 @@ impl<T: Drop> From<AllocFailed<T>> for BuildFault {
     fn from(_error: AllocFailed<T>) -> BuildFault {
         BuildFault::NoMemory
     }
+}
+
+/// Why a text is no tables. Lines are counted from 1.
+#[derive(Clone, Copy, Debug, Drop, PartialEq, Eq, Error)]
+pub enum TablesFault {
+    #[error("line {0}: {1}")]
+    Line(u64, Cause),
+    /// The row of this line is of a group, a device, or a sender on a channel that an earlier row is of.
+    #[error("line {0}: twice")]
+    Twice(u64),
+    /// As many rows as there may be of its kind stand before the row of this line.
+    #[error("line {0}: many")]
+    TooMany(u64),
+    #[error("out of memory")]
+    NoMemory,
 }

@@ -4,11 +4,13 @@
 
 mod faults;
 mod key_row;
+mod reading;
 mod row_list;
 mod tables;
 mod types;
 
-pub use faults::BuildFault;
+pub use faults::{BuildFault, TablesFault};
+pub use reading::read_tables;
 pub use row_list::RowList;
 pub use tables::Tables;
 pub use types::{Channel, Lane, Level, Role, Row};
