@@ -1,3 +1,4 @@
 mod Firsts
 mod Adding
 mod Expanding
+mod TextLemmas

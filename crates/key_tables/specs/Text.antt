@@ -174,6 +174,11 @@ refusal number rows (Err why) = Some (Line number why)
 refusal number rows (Ok None) = None
 refusal number rows (Ok (Some row)) = option_map (at_line number) (row_fault rows row)
 
+-- it is this fault that the line has, or memory was wanting
+abbrev pub IsRefusal : TablesFault → Option TablesFault → Type 0
+IsRefusal NoMemory found = Unit {0}
+IsRefusal fault found = found ≡ Some fault
+
 -- why a line is refused right after these lines
 unfoldable pub line_fault : List (List ℕ) → List ℕ → Option TablesFault
 line_fault before line = refusal (length before + 1) (rows_of before) (line_says line)

@@ -1,10 +1,11 @@
-ghost use Rattle.std.specs.Prelude.{◌≡◌, ◌∷◌, [], Some, None, Ok, IfOk, IfErr, MatchResult, Err};
+ghost use Rattle.std.specs.Prelude.{◌≡◌, ◌∷◌, [], Some, None, Ok, IfOk, IfErr, ◌++◌, IsOk, OnOk, MatchResult, Err};
+ghost use Rattle.std.specs.Option.{option_to_list};
 ghost use Rattle.key_tables.specs.Text.{group_named, device_named, key_named, level_named, role_named, channel_named, sender_named};
-ghost use Rattle.key_tables.specs.Text.{two_words, three_words, group_row, tool_row, role_row, row_of, line_says, tables_of, IsTextFault};
+ghost use Rattle.key_tables.specs.Text.{two_words, three_words, group_row, tool_row, role_row, row_of, line_says, row_said, at_line, refusal, tables_of, IsRefusal, IsTextFault};
 
 use crate::{BuildFault, Channel, Level, Role, Row, RowList, TablesFault};
 use hex::FromHex;
-use knx_base::{Cause, GroupAddr, IndAddr, Words, judge_line};
+use knx_base::{Cause, GroupAddr, IndAddr, Lines, Words, judge_line};
 use std::alloc::Global;
 
 fn read_group(word: &str) -> Result<GroupAddr, Cause>
@@ -141,6 +142,41 @@ fn read_line(line: &[u8]) -> Result<Option<Row>, Cause>
     }
 }
 
-pub fn read_tables(_alloc: Global, _bytes: &[u8]) -> Result<RowList, TablesFault> {
-    Err(TablesFault::NoMemory)
+/// The rows of a tables text, in the order of their lines, or the fault of its first refused line.
+///
+/// A line is refused as a line of text, then for an unknown first word or a wrong number of words, then for its first bad word
+/// from left to right, then because its row may not stand after the rows before it.
+pub fn read_tables(alloc: Global, bytes: &[u8]) -> Result<RowList, TablesFault>
+    ensures rows { IfOk result (λ rows. tables_of bytes.now ≡ Ok rows) }
+    ensures fault { IfErr result (λ fault. IsTextFault fault (tables_of bytes.now)) }
+{
+    let mut list = RowList::new(alloc);
+    let mut lines = Lines::new(bytes);
+    'lines: while let Some((number, line)) = lines.next() {
+        take_line(&mut list, number, line)?;
+    }
+    Ok(list)
+}
+
+// Adds the row that the line says, if it says one.
+fn take_line(list: &mut RowList, number: u64, line: &[u8]) -> Result<(), TablesFault>
+    ensures taken { OnOk result (list.new ≡ list.old ++ option_to_list (row_said (line_says line.now))) }
+    ensures right { IsOk result → refusal number list.old (line_says line.now) ≡ None }
+    ensures fault { IfErr result (λ fault. IsRefusal fault (refusal number list.old (line_says line.now))) }
+{
+    match read_line(line) {
+        Ok(Some(row)) => list.add(row).map_err(|fault| at_line(number, fault)),
+        Ok(None) => Ok(()),
+        Err(cause) => Err(TablesFault::Line(number, cause)),
+    }
+}
+
+fn at_line(number: u64, fault: BuildFault) -> TablesFault
+    ensures { result ≡ at_line number fault }
+{
+    match fault {
+        BuildFault::Twice(_) => TablesFault::Twice(number),
+        BuildFault::TooMany(_) => TablesFault::TooMany(number),
+        BuildFault::NoMemory => TablesFault::NoMemory,
+    }
 }
