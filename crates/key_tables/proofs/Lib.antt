@@ -2,3 +2,4 @@ mod Firsts
 mod Adding
 mod Expanding
 mod TextLemmas
+mod Unique

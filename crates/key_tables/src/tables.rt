@@ -1,8 +1,8 @@
-ghost use Rattle.std.specs.Prelude.{◌≡◌, find, None, Some, IfOk, IfErr, IsOk};
+ghost use Rattle.std.specs.Prelude.{◌≡◌, ◌||◌, true, false, find, None, Some, is_some, IfSome, IfOk, IfErr, IsOk};
 ghost use Rattle.std.specs.Option.{option_map, option_or};
 ghost use Rattle.key_tables.specs.Build.{build_fault, merged, IsFault};
 ghost use Rattle.key_tables.specs.Expanded.{expanded_keys, is_of};
-ghost use Rattle.key_tables.specs.Rows.{is_key_row, is_role_row, key_of, level_of, named_role, role_of, channel_of, device_role, keyed};
+ghost use Rattle.key_tables.specs.Rows.{is_key_row, is_role_row, row_key, row_level, row_role, is_own, has_key, has_role, EachSays, key_of, level_of, named_role, role_of, channel_of, device_role, keyed};
 
 use crate::key_row::{KeyRow, expanded};
 use crate::{BuildFault, Channel, Level, Role, Row, RowList};
@@ -68,11 +68,13 @@ impl Tables {
     }
 
     /// The key of a channel.
-    #[tactic(auto, unfolding(crate::specs::Rows::key_of))]
+    #[tactic(auto, using(crate::proofs::Unique::key_where, crate::proofs::Unique::each_key))]
     pub fn key(&self, channel: Channel) -> Option<[u8; 16]>
         ensures key { result ≡ key_of self.now channel }
+        ensures there { is_some result ≡ has_key self.now channel }
+        ensures each { EachSays self.now (is_key_row channel) row_key result }
     {
-        key_row(self.list.as_slice(), channel)?.key()
+        key_in(self.list.as_slice(), channel)
     }
 
     /// The key of a channel, with its round keys.
@@ -84,11 +86,13 @@ impl Tables {
     }
 
     /// The level of a channel that has a key.
-    #[tactic(auto, unfolding(crate::specs::Rows::level_of))]
+    #[tactic(auto, using(crate::proofs::Unique::level_where, crate::proofs::Unique::each_level))]
     pub fn level(&self, channel: Channel) -> Option<Level>
         ensures level { result ≡ level_of self.now channel }
+        ensures there { is_some result ≡ has_key self.now channel }
+        ensures each { EachSays self.now (is_key_row channel) row_level result }
     {
-        key_row(self.list.as_slice(), channel)?.level()
+        level_in(self.list.as_slice(), channel)
     }
 
     /// The role of a sender on a channel: its own row's, else that of the row for any sender, else Observe for the device whose
@@ -96,6 +100,9 @@ impl Tables {
     #[tactic(auto, unfolding(crate::specs::Rows::role_of))]
     pub fn role(&self, channel: Channel, sender: IndAddr) -> Option<Role>
         ensures role { result ≡ role_of self.now channel sender }
+        ensures there { is_some result ≡ (has_role self.now channel (Some sender) || has_role self.now channel None || is_own channel sender) }
+        ensures own { EachSays self.now (is_role_row channel (Some sender)) row_role result }
+        ensures any { has_role self.now channel (Some sender) ≡ false → EachSays self.now (is_role_row channel None) row_role result }
     {
         match self.named_role(channel, Some(sender)) {
             Some(role) => Some(role),
@@ -105,7 +112,9 @@ impl Tables {
 
     // The role of a sender that has no row of its own.
     fn common_role(&self, channel: Channel, sender: IndAddr) -> Option<Role>
-        ensures { result ≡ option_or (named_role self.now channel None) (device_role channel sender) }
+        ensures role { result ≡ option_or (named_role self.now channel None) (device_role channel sender) }
+        ensures there { is_some result ≡ (has_role self.now channel None || is_own channel sender) }
+        ensures any { EachSays self.now (is_role_row channel None) row_role result }
     {
         match self.named_role(channel, None) {
             Some(role) => Some(role),
@@ -113,11 +122,13 @@ impl Tables {
         }
     }
 
-    #[tactic(auto, unfolding(crate::specs::Rows::named_role))]
+    #[tactic(auto, using(crate::proofs::Unique::named_where, crate::proofs::Unique::each_role))]
     fn named_role(&self, channel: Channel, sender: Option<IndAddr>) -> Option<Role>
-        ensures { result ≡ named_role self.now channel sender }
+        ensures role { result ≡ named_role self.now channel sender }
+        ensures there { is_some result ≡ has_role self.now channel sender }
+        ensures each { EachSays self.now (is_role_row channel sender) row_role result }
     {
-        role_row(self.list.as_slice(), channel, sender)?.role()
+        role_in(self.list.as_slice(), channel, sender)
     }
 
     /// The channel of a frame. Without tool access it is the destination, where that is a group with a key. With tool access
@@ -131,6 +142,7 @@ impl Tables {
         destination: u16,
     ) -> Option<Channel>
         ensures channel { result ≡ channel_of self.now group tool source destination }
+        ensures keyed { IfSome result (λ channel. has_key self.now channel ≡ true) }
     {
         match (group, tool) {
             (true, false) => self.keyed(Channel::Group(GroupAddr(destination))),
@@ -140,7 +152,8 @@ impl Tables {
     }
 
     fn tool_channel(&self, source: IndAddr, destination: IndAddr) -> Option<Channel>
-        ensures { result ≡ option_or (keyed self.now (Channel.Tool destination)) (keyed self.now (Channel.Tool source)) }
+        ensures channel { result ≡ option_or (keyed self.now (Channel.Tool destination)) (keyed self.now (Channel.Tool source)) }
+        ensures keyed { IfSome result (λ channel. has_key self.now channel ≡ true) }
     {
         match self.keyed(Channel::Tool(destination)) {
             Some(channel) => Some(channel),
@@ -149,7 +162,8 @@ impl Tables {
     }
 
     fn keyed(&self, channel: Channel) -> Option<Channel>
-        ensures { result ≡ keyed self.now channel }
+        ensures channel { result ≡ keyed self.now channel }
+        ensures keyed { IfSome result (λ channel. has_key self.now channel ≡ true) }
     {
         self.key(channel).and(Some(channel))
     }
@@ -174,6 +188,27 @@ fn own_role(channel: Channel, sender: IndAddr) -> Option<Role>
         Channel::Tool(device) if device == sender => Some(Role::Observe),
         _ => None,
     }
+}
+
+#[tactic(auto, unfolding(crate::specs::Rows::key_of))]
+fn key_in(rows: &[Row], channel: Channel) -> Option<[u8; 16]>
+    ensures { result ≡ key_of rows.now channel }
+{
+    key_row(rows, channel)?.key()
+}
+
+#[tactic(auto, unfolding(crate::specs::Rows::level_of))]
+fn level_in(rows: &[Row], channel: Channel) -> Option<Level>
+    ensures { result ≡ level_of rows.now channel }
+{
+    key_row(rows, channel)?.level()
+}
+
+#[tactic(auto, unfolding(crate::specs::Rows::named_role))]
+fn role_in(rows: &[Row], channel: Channel, sender: Option<IndAddr>) -> Option<Role>
+    ensures { result ≡ named_role rows.now channel sender }
+{
+    role_row(rows, channel, sender)?.role()
 }
 
 fn key_row(rows: &[Row], channel: Channel) -> Option<&Row>
