@@ -7,6 +7,8 @@ mod key_row;
 mod reading;
 mod row_list;
 mod tables;
+#[cfg(test)]
+mod tests;
 mod types;
 
 pub use faults::{BuildFault, TablesFault};
