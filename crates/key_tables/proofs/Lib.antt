@@ -3,3 +3,4 @@ mod Adding
 mod Expanding
 mod TextLemmas
 mod Unique
+mod Merging

@@ -27,12 +27,12 @@ pub found_where : {A : Type 0} (p : Row → Bool) (f : Row → Option A) (each :
 found_where p f each [] = refl
 found_where p f each (this ∷ rows) = step_found (p this) _ this _ f (each this) (found_where p f each rows)
 
-key_row_has_key : (channel : Channel) (row : Row) → is_key_row channel row ≡ true → is_some (row_key row) ≡ true
+pub key_row_has_key : (channel : Channel) (row : Row) → is_key_row channel row ≡ true → is_some (row_key row) ≡ true
 key_row_has_key channel (row.Group _ _ _) h = refl
 key_row_has_key channel (row.Tool _ _) h = refl
 key_row_has_key channel (row.Role _ _ _) h = absurd cc
 
-key_row_has_level : (channel : Channel) (row : Row) → is_key_row channel row ≡ true → is_some (row_level row) ≡ true
+pub key_row_has_level : (channel : Channel) (row : Row) → is_key_row channel row ≡ true → is_some (row_level row) ≡ true
 key_row_has_level channel (row.Group _ _ _) h = refl
 key_row_has_level channel (row.Tool _ _) h = refl
 key_row_has_level channel (row.Role _ _ _) h = absurd cc
@@ -70,7 +70,7 @@ sender_is (Some a) (Some b) h = ap (λ n. Some (record { 0 = n })) ((Decides-eqb
 sender_is None (Some b) h = absurd cc
 sender_is (Some a) None h = absurd cc
 
-both_true : (a b : Bool) → (a && b) ≡ true → (a ≡ true) × (b ≡ true)
+pub both_true : (a b : Bool) → (a && b) ≡ true → (a ≡ true) × (b ≡ true)
 both_true true b h = (refl, h)
 both_true false b h = absurd cc
 

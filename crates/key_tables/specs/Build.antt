@@ -1,13 +1,16 @@
 -- Which lists of rows are tables, and how two lists are merged.
 use Rattle.std.specs.Prelude.{◌≡◌, ℕ, nat_le, not, Bool, true, false, if◌then◌else◌, List, [], ◌++◌, length, Option, Some, None}
+use Rattle.std.specs.Option.{option_or}
 use Rattle.std.specs.List.{list_any, filter}
+use Rattle.knx_base.specs.declared.address.IndAddr.{IndAddr}
+use Rattle.key_tables.specs.declared.types.Channel.{Channel}
 use Rattle.key_tables.specs.declared.types.Channel.TheVariants as channel
 use Rattle.key_tables.specs.declared.types.Row.{Row}
 use Rattle.key_tables.specs.declared.types.Row.TheVariants as row
 use Rattle.key_tables.specs.declared.faults.BuildFault.{BuildFault}
 use Rattle.key_tables.specs.declared.faults.BuildFault.TheVariants.{Twice, TooMany, NoMemory}
 use Rattle.key_tables.specs.First.{first_of}
-use Rattle.key_tables.specs.Rows.{role_channel, is_channel, is_key_row, is_role_row}
+use Rattle.key_tables.specs.Rows.{role_channel, is_channel, is_key_row, is_role_row, key_of, level_of, role_of}
 
 -- ---- limits
 
@@ -91,3 +94,25 @@ is_kept over row = not (is_displaced over row)
 -- All rows of the list above, and then those of the list below whose channel has no key, or no role, above.
 unfoldable pub merged : List Row → List Row → List Row
 merged over under = over ++ filter (is_kept over) under
+
+-- ---- what a merged list says of a channel
+
+-- a row gives a role on the channel
+abbrev pub has_roles : List Row → Channel → Bool
+has_roles rows channel = list_any (λ row. is_channel channel (role_channel row)) rows
+
+-- the key is that of the list above, where it has one, else that of the list below
+abbrev pub KeysMerge : List Row → List Row → Type 0
+KeysMerge over under =
+    (channel : Channel) → key_of (merged over under) channel ≡ option_or (key_of over channel) (key_of under channel)
+
+-- and so is the level
+abbrev pub LevelsMerge : List Row → List Row → Type 0
+LevelsMerge over under =
+    (channel : Channel) → level_of (merged over under) channel ≡ option_or (level_of over channel) (level_of under channel)
+
+-- the roles are all those of the list above, where it gives any on the channel, else all those of the list below
+abbrev pub RolesMerge : List Row → List Row → Type 0
+RolesMerge over under =
+    (channel : Channel) (sender : IndAddr)
+    → role_of (merged over under) channel sender ≡ role_of (if has_roles over channel then over else under) channel sender
