@@ -1,0 +1,6 @@
+mod Firsts
+mod Adding
+mod Expanding
+mod TextLemmas
+mod Unique
+mod Merging

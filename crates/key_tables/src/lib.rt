@@ -1,0 +1,18 @@
+//! The rows of an installation: keys of groups and devices, levels, and roles of senders; what a list of rows says of a frame,
+//! and the text that rows are read from.
+#![tactic(auto)]
+
+mod faults;
+mod key_row;
+mod reading;
+mod row_list;
+mod tables;
+#[cfg(test)]
+mod tests;
+mod types;
+
+pub use faults::{BuildFault, TablesFault};
+pub use reading::read_tables;
+pub use row_list::RowList;
+pub use tables::Tables;
+pub use types::{Channel, Lane, Level, Role, Row};
