@@ -1,7 +1,7 @@
 -- What is wrong with a secure frame first.
-use Rattle.std.proofs.Common.{◌≡◌, ℕ, ◌+◌, ◌-◌, ◌/◌, ◌%◌, ◌<◌, ◌≤◌, Bool, true, false, cond, List, [], ◌∷◌, ◌++◌, length, take, drop, length-drop, Option, Some, None, refl, sym, ap, ◌∙◌, subst, arith}
+use Rattle.std.proofs.Common.{◌≡◌, ℕ, zero, suc, ◌+◌, ◌-◌, ◌/◌, ◌%◌, ◌<◌, ◌≤◌, Bool, true, false, cond, List, [], ◌∷◌, ◌++◌, length, take, drop, length-drop, Option, Some, None, refl, sym, ap, ◌∙◌, subst, arith}
 use Rattle.std.specs.Prelude.{slice_index, find, option_map, nat_lt, ◌==◌, ◌&&◌, ◌||◌, if◌then◌else◌, ◌↔◌, IsTrue}
-use Rattle.std.proofs.lemmas.Bool.{lt-ltb, le-ltb, ltb-false, eq-eqb, eqb-true, false≢true}
+use Rattle.std.proofs.lemmas.Bool.{lt-ltb, le-ltb, ltb-false, eq-eqb, eqb-true, false≢true, ne_eqb}
 use Rattle.std.proofs.lemmas.List.{length-take-le, get_or_at}
 use Rattle.knx_base.specs.Number.{octets_of}
 use Rattle.knx_base.proofs.NumberLemmas.{length-octets_of}
@@ -90,16 +90,26 @@ misfit-fits : (fits a b : Bool) → (if fits then false else true) || a || b ≡
 misfit-fits true a b said = refl
 misfit-fits false a b said = absurd cc
 
-sync-fits : (service length : ℕ) (a b : Bool) → is_sync service && (is_misfit service length || a || b) ≡ false
-    → (service ≡ 2 → length ≡ 6) × (service ≡ 3 → length ≡ 12)
-sync-fits service length a b said = (
-    λ two. eqb-true length 6 (misfit-fits (length == 6) a b (subst (λ (s : ℕ). is_sync s && (is_misfit s length || a || b) ≡ false) two said)),
-    λ three. eqb-true length 12 (misfit-fits (length == 12) a b (subst (λ (s : ℕ). is_sync s && (is_misfit s length || a || b) ≡ false) three said)),
-  )
+is_unknown-above : (n : ℕ) → true ≡ is_unknown (suc (suc (suc (suc n))))
+is_unknown-above n =
+    let above : ℕ = suc (suc (suc (suc n))) in
+    λ i. if sym (ne_eqb above 0 (λ same. absurd (omega (arith, same)))) i then false
+    else if sym (ne_eqb above 2 (λ same. absurd (omega (arith, same)))) i then false
+    else if sym (ne_eqb above 3 (λ same. absurd (omega (arith, same)))) i then false else true
 
--- a request of synchronisation has six octets of an APDU, an answer twelve
+known-fits : (service size : ℕ) (a b : Bool) → is_unknown service ≡ false → is_sync service && (is_misfit service size || a || b) ≡ false
+    → (service ≡ 2 → size ≡ 6) × ((service ≡ 0 → ⊥) → (service ≡ 2 → ⊥) → size ≡ 12)
+known-fits zero size a b known said = (λ two. absurd cc, λ not_data not_ask. absurd (not_data refl))
+known-fits (suc zero) size a b known said = absurd cc
+known-fits (suc (suc zero)) size a b known said = (λ two. eqb-true size 6 (misfit-fits (size == 6) a b said), λ not_data not_ask. absurd (not_ask refl))
+known-fits (suc (suc (suc zero))) size a b known said = (λ two. absurd cc, λ not_data not_ask. eqb-true size 12 (misfit-fits (size == 12) a b said))
+known-fits (suc (suc (suc (suc n)))) size a b known said =
+    absurd (false≢true (sym (is_unknown-above n ∙ known)))
+
+-- a request of synchronisation has six octets of an APDU, an answer twelve, and what is neither is data
 pub faultless_sync : (content : List ℕ) (group : Bool) → bad_secure content group ≡ None
-    → (service_of (slice_index content 2) ≡ 2 → length content ≡ 19) × (service_of (slice_index content 2) ≡ 3 → length content ≡ 25)
+    → (service_of (slice_index content 2) ≡ 2 → length content ≡ 19)
+    × ((service_of (slice_index content 2) ≡ 0 → ⊥) → (service_of (slice_index content 2) ≡ 2 → ⊥) → length content ≡ 25)
 unfolding bad_secure
 faultless_sync content group none =
     let field : ℕ = slice_index content 2 in
@@ -109,7 +119,7 @@ faultless_sync content group none =
     let third = passes (is_broadcast field) bad.Broadcast (drop 2 (field_tests field size group)) second.1 in
     let fourth = passes (is_unknown (service_of field)) (bad.Service (service_of field)) (drop 3 (field_tests field size group)) third.1 in
     let last = passes (is_sync (service_of field) && (is_misfit (service_of field) size || algorithm_of field == 0 || group)) (bad.Sync field size) [] fourth.1 in
-    let fits = sync-fits (service_of field) size (algorithm_of field == 0) group last.0 in (
+    let fits = known-fits (service_of field) size (algorithm_of field == 0) group fourth.0 last.0 in (
       λ two. let six : size ≡ 6 = fits.0 two in omega (arith, six),
-      λ three. let twelve : size ≡ 12 = fits.1 three in omega (arith, twelve),
+      λ not_data not_ask. let twelve : size ≡ 12 = fits.1 not_data not_ask in omega (arith, twelve),
     )
