@@ -46,24 +46,24 @@ check_key rows t = if is_some (channel_in rows t) then None else Some verdict.No
 abbrev pub check_pending : Option (List ℕ) → Telegram → Option Verdict
 check_pending asked t = if sync_service t == 3 then (if is_some asked then None else Some verdict.NoPending) else None
 
--- ---- the code and what it covers, on a channel and under a number
+-- ---- the code and what it covers, under a number
 
-abbrev pub key_on : List Row → Channel → List ℕ
-key_on rows c = unwrap_or (key_of rows c) []
+-- the APDU on the wire, under a key
+abbrev pub apdu_in : List ℕ → ℕ → Telegram → List ℕ
+apdu_in key number t = said_apdu key (head_in number t) (body_in t)
 
--- the APDU on the wire, under the key of the channel
-abbrev pub apdu_in : List Row → ℕ → Channel → Telegram → List ℕ
-apdu_in rows number c t = said_apdu (key_on rows c) (head_in number t) (body_in t)
+abbrev pub codes_in : List ℕ → ℕ → Telegram → CodeDiffers
+codes_in key number t = record {
+  said = said_code key (head_in number t) (body_in t);
+  computed = computed_code key (head_in number t) (body_in t);
+}
 
 abbrev pub unless_opened : Option (List ℕ) → CodeDiffers → Option Verdict
 unless_opened (Some apdu) codes = None
 unless_opened None codes = Some (verdict.BadCode codes)
 
-abbrev pub check_code : List Row → ℕ → Channel → Telegram → Option Verdict
-check_code rows number c t = unless_opened (opened (key_on rows c) (head_in number t) (body_in t)) (record {
-  said = said_code (key_on rows c) (head_in number t) (body_in t);
-  computed = computed_code (key_on rows c) (head_in number t) (body_in t);
-})
+abbrev pub check_code : List ℕ → ℕ → Telegram → Option Verdict
+check_code key number t = unless_opened (opened key (head_in number t) (body_in t)) (codes_in key number t)
 
 -- the first number of an answer's payload is the one that it was sealed under
 abbrev pub check_payload : ℕ → Telegram → List ℕ → Option Verdict
@@ -153,9 +153,13 @@ first_failing [] = None
 first_failing (None ∷ checks) = first_failing checks
 first_failing (Some failed ∷ checks) = Some failed
 
--- after these a frame has a lane
+-- after these a frame has the parts of a secure one
+abbrev pub secure_checks : Telegram → List (Option Verdict)
+secure_checks t = check_control t ∷ check_plain t ∷ check_secure t ∷ []
+
+-- after these it has a lane
 abbrev pub lane_checks : List Row → Telegram → List (Option Verdict)
-lane_checks rows t = check_control t ∷ check_plain t ∷ check_secure t ∷ check_key rows t ∷ []
+lane_checks rows t = secure_checks t ++ check_key rows t ∷ []
 
 abbrev pub entry_checks : List Row → Option (List ℕ) → Telegram → List (Option Verdict)
 entry_checks rows asked t = lane_checks rows t ++ check_pending asked t ∷ []
@@ -164,9 +168,12 @@ entry_checks rows asked t = lane_checks rows t ++ check_pending asked t ∷ []
 abbrev pub opened_checks : List Row → ℕ → Channel → Telegram → List ℕ → List (Option Verdict)
 opened_checks rows number c t apdu = check_payload number t apdu ∷ check_sender rows c t ∷ []
 
+abbrev pub key_on : List Row → Channel → List ℕ
+key_on rows c = unwrap_or (key_of rows c) []
+
 -- after these a number may be kept
 abbrev pub code_checks : List Row → ℕ → Channel → Telegram → List (Option Verdict)
-code_checks rows number c t = check_code rows number c t ∷ opened_checks rows number c t (apdu_in rows number c t)
+code_checks rows number c t = check_code (key_on rows c) number t ∷ opened_checks rows number c t (apdu_in (key_on rows c) number t)
 
 abbrev pub data_checks : List Row → ℕ → ℕ → Channel → Telegram → List ℕ → List (Option Verdict)
 data_checks rows mark number c t apdu =
@@ -190,8 +197,8 @@ verdict_or good (Some failed) = failed
 -- the verdict on a telegram of this channel, under this number
 abbrev pub verdict_on : List Row → ℕ → ℕ → Channel → Telegram → Verdict
 verdict_on rows mark number c t =
-    verdict_or (good_verdict number t (apdu_in rows number c t))
-    (first_failing (code_checks rows number c t ++ last_checks rows mark number c t (apdu_in rows number c t)))
+    verdict_or (good_verdict number t (apdu_in (key_on rows c) number t))
+    (first_failing (code_checks rows number c t ++ last_checks rows mark number c t (apdu_in (key_on rows c) number t)))
 
 abbrev pub on_channel : {A : Type 0} → A → Option Channel → (Channel → A) → A
 on_channel other None P = other

@@ -1,10 +1,10 @@
-ghost use Rattle.std.specs.Prelude.{◌≡◌, ◌/◌, ◌%◌, ◌==◌, [], ◌∷◌, false, Some, None, MatchResult, MatchOption};
+ghost use Rattle.std.specs.Prelude.{◌≡◌, ◌/◌, ◌%◌, ◌==◌, [], ◌∷◌, false, Some, None, MatchResult, MatchOption, OnOk, IfOk};
 ghost use Rattle.std.specs.Option.{option_map};
 ghost use Rattle.cemi_frames.specs.Frames.{Telegram, telegram};
 ghost use Rattle.secure_apdu.specs.Secure.{is_secure, bad_secure, HasParts};
 ghost use Rattle.key_tables.specs.Rows.{lane_of, key_of};
 ghost use Rattle.judge_rules.specs.Parts.{is_group, source_of, field_in, shown_in, number_in, channel_in};
-ghost use Rattle.judge_rules.specs.Checks.{check_control, check_plain, check_pending, plain_service, lane_checks, entry_checks, first_failing};
+ghost use Rattle.judge_rules.specs.Checks.{check_control, check_plain, check_pending, plain_service, secure_checks, lane_checks, entry_checks, first_failing};
 
 use crate::Verdict;
 use aes_modes::Key128;
@@ -63,16 +63,30 @@ fn keyed<'a>(tables: &Tables, frame: &Frame<'a>) -> Result<(Secure<'a>, Channel,
         × (key_of tables.now found.1 ≡ Some found.2))
         (λ verdict. first_failing (lane_checks tables.now (telegram frame.now)) ≡ Some verdict) }
 {
-    if !is_secure(frame) {
-        return Err(insecure(frame));
-    }
-    let secure = match read_secure(frame) {
+    let secure = match secure_parts(frame) {
         Ok(secure) => secure,
-        Err(fault) => return Err(Verdict::BadSecure(fault)),
+        Err(verdict) => return Err(verdict),
     };
     match keyed_channel(tables, frame, secure.field) {
         Some((channel, key)) => Ok((secure, channel, key)),
         None => Err(Verdict::NoKey),
+    }
+}
+
+/// The parts of a frame that is secure and in form, or the verdict on it.
+pub fn secure_parts<'a>(frame: &Frame<'a>) -> Result<Secure<'a>, Verdict>
+    ensures verdict { MatchResult result
+        (λ _. first_failing (secure_checks (telegram frame.now)) ≡ None)
+        (λ verdict. first_failing (secure_checks (telegram frame.now)) ≡ Some verdict) }
+    ensures faultless { OnOk result (bad_secure frame.now.content.now (frame.now.control2 / 128 % 2 == 1) ≡ None) }
+    ensures parts { IfOk result (λ secure. HasParts frame.now.content.now secure.field secure.shown secure.body.now) }
+{
+    if !is_secure(frame) {
+        return Err(insecure(frame));
+    }
+    match read_secure(frame) {
+        Ok(secure) => Ok(secure),
+        Err(fault) => Err(Verdict::BadSecure(fault)),
     }
 }
 

@@ -10,7 +10,7 @@ mod text;
 mod verdict;
 
 pub use alarm::is_alarm;
-pub use entry::lane_of;
+pub use entry::{lane_of, secure_parts};
 pub use judgement::judge;
 pub use text::write_verdict;
 pub use verdict::{BadService, Judgement, Verdict};
