@@ -1,6 +1,7 @@
 -- What a list of rows says of an installation: keys, levels, roles, and the channel and the lane of a frame.
-use Rattle.std.specs.Prelude.{ℕ, ◌==◌, ◌&&◌, nat_le, Bool, true, false, if◌then◌else◌, List, find, Option, Some, None}
+use Rattle.std.specs.Prelude.{◌≡◌, ℕ, ◌==◌, ◌&&◌, nat_le, Bool, true, false, if◌then◌else◌, List, find, Option, Some, None}
 use Rattle.std.specs.Option.{option_or, option_and_then}
+use Rattle.std.specs.List.{list_any, Contains}
 use Rattle.knx_base.specs.declared.address.IndAddr.{IndAddr}
 use Rattle.key_tables.specs.declared.types.Channel.{Channel}
 use Rattle.key_tables.specs.declared.types.Channel.TheVariants as channel
@@ -70,6 +71,14 @@ row_role _ = None
 
 -- ---- what the list says
 
+-- a row holds the channel's key
+abbrev pub has_key : List Row → Channel → Bool
+has_key rows channel = list_any (is_key_row channel) rows
+
+-- a row holds this very sender's role on the channel, None being any
+abbrev pub has_role : List Row → Channel → Option IndAddr → Bool
+has_role rows channel sender = list_any (is_role_row channel sender) rows
+
 -- the key of a channel
 unfoldable pub key_of : List Row → Channel → Option (List ℕ)
 key_of rows channel = option_and_then row_key (find (is_key_row channel) rows)
@@ -82,10 +91,14 @@ level_of rows channel = option_and_then row_level (find (is_key_row channel) row
 unfoldable pub named_role : List Row → Channel → Option IndAddr → Option Role
 named_role rows channel sender = option_and_then row_role (find (is_role_row channel sender) rows)
 
+-- the channel is this device's
+abbrev pub is_own : Channel → IndAddr → Bool
+is_own (channel.Tool device) sender = device.0 == sender.0
+is_own (channel.Group _) sender = false
+
 -- a device observes on its own channel
 abbrev pub device_role : Channel → IndAddr → Option Role
-device_role (channel.Tool device) sender = if device.0 == sender.0 then Some Observe else None
-device_role (channel.Group _) sender = None
+device_role channel sender = if is_own channel sender then Some Observe else None
 
 -- the role of a sender on a channel: by its own row, else by the row of any, else as the device whose channel it is
 unfoldable pub role_of : List Row → Channel → IndAddr → Option Role
@@ -113,6 +126,10 @@ channel_of rows _ _ source destination = None
 abbrev pub lane_of : Channel → IndAddr → Lane
 lane_of (channel.Group _) sender = lane.Run sender
 lane_of (channel.Tool device) sender = lane.Tool device sender
+
+-- each such row of the list says this
+abbrev pub EachSays : {A : Type 0} → List Row → (Row → Bool) → (Row → Option A) → Option A → Type 0
+EachSays rows is_such says answer = (row : Row) → Contains rows row → is_such row ≡ true → answer ≡ says row
 
 -- ---- roles in their order
 

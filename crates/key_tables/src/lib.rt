@@ -2,8 +2,17 @@
 //! and the text that rows are read from.
 #![tactic(auto)]
 
+mod faults;
+mod key_row;
+mod reading;
+mod row_list;
 mod tables;
+#[cfg(test)]
+mod tests;
 mod types;
 
+pub use faults::{BuildFault, TablesFault};
+pub use reading::read_tables;
+pub use row_list::RowList;
 pub use tables::Tables;
 pub use types::{Channel, Lane, Level, Role, Row};

@@ -1,4 +1,5 @@
 ghost use Rattle.std.specs.Prelude.{◌≡◌};
+ghost use Rattle.key_tables.specs.Build.{repeats, displaces};
 ghost use Rattle.key_tables.specs.Rows.{same_channel, key_channel, role_channel, is_channel, is_key_row, has_sender, is_role_row, row_key, row_level, row_role, lane_of, role_rank, is_enough};
 
 use knx_base::{GroupAddr, IndAddr};
@@ -147,6 +148,42 @@ impl Row {
     {
         match self {
             Row::Role { role, .. } => Some(*role),
+            _ => None,
+        }
+    }
+
+    // The earlier row is of the same group, of the same device, or of the same sender on the same channel.
+    pub(crate) fn repeats(&self, earlier: &Row) -> bool
+        ensures { result ≡ repeats self.now earlier.now }
+    {
+        match self {
+            Row::Group { address, .. } => earlier.is_key_of(Channel::Group(*address)),
+            Row::Tool { device, .. } => earlier.is_key_of(Channel::Tool(*device)),
+            Row::Role {
+                channel,
+                sender,
+                ..
+            } => earlier.is_role_of(*channel, *sender),
+        }
+    }
+
+    // Both rows hold the key of one channel, or both a role on it.
+    pub(crate) fn displaces(&self, over: &Row) -> bool
+        ensures { result ≡ displaces self.now over.now }
+    {
+        match self {
+            Row::Group { address, .. } => over.is_key_of(Channel::Group(*address)),
+            Row::Tool { device, .. } => over.is_key_of(Channel::Tool(*device)),
+            Row::Role { channel, .. } => over.role_channel() == Some(*channel),
+        }
+    }
+
+    // The channel of a role row.
+    fn role_channel(&self) -> Option<Channel>
+        ensures { result ≡ role_channel self.now }
+    {
+        match self {
+            Row::Role { channel, .. } => Some(*channel),
             _ => None,
         }
     }

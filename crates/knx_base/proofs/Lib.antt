@@ -5,3 +5,4 @@ mod DecimalLemmas
 mod Pieces
 mod AddressLemmas
 pub mod Places
+mod LineTexts

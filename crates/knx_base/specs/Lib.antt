@@ -8,3 +8,5 @@ pub mod MemFiles
 pub mod Shelf
 pub mod Decimal
 pub mod Address
+pub mod Cause
+pub mod Lines

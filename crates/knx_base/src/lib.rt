@@ -3,11 +3,13 @@
 #![tactic(auto)]
 
 mod address;
+mod cause;
 mod decimal;
 mod faults;
 mod files;
 mod host;
 mod line;
+mod lines;
 mod mem_files;
 mod mem_sink;
 mod number;
@@ -17,11 +19,13 @@ mod sink;
 mod tests;
 
 pub use address::{GroupAddr, IndAddr};
+pub use cause::Cause;
 pub use decimal::{put_decimal, put_octet, read_decimal};
 pub use faults::{Failed, NoMemory};
 pub use files::{Files, LAST_PLACE};
 pub use host::{HostFiles, HostSink};
 pub use line::LineBuf;
+pub use lines::{Lines, MOST_OCTETS, Words, judge_line};
 pub use mem_files::MemFiles;
 pub use mem_sink::MemSink;
 pub use number::Number48;

@@ -1,0 +1,5 @@
+mod Firsts
+mod Adding
+mod Expanding
+mod TextLemmas
+mod Unique

@@ -1,0 +1,7 @@
+use Rattle.std.proofs.Common.{take}
+use Rattle.std.specs.List.{filter}
+use Rattle.key_tables.specs.Build.{Adds, is_kept}
+use Rattle.key_tables.proofs.row_list.RowList.add_kept.Given as goal
+
+abbrev pub invariant-rows : goal.invariant-rows
+invariant-rows l = Adds l.initial.self l.self (filter (is_kept l.over) (take l.row-index l.rows))

@@ -1,0 +1,131 @@
+ghost use Rattle.std.specs.Prelude.{◌≡◌, ◌++◌, ◌∷◌, [], None, false, IfErr, OnOk, OnErr};
+ghost use Rattle.std.specs.List.{filter};
+ghost use Rattle.key_tables.specs.Build.{is_full, is_repeated, is_displaced, is_kept, row_fault, first_fault, build_fault, Adds, IsFault};
+
+use crate::{BuildFault, Row};
+use std::alloc::Global;
+use std::marker::Model;
+
+// So many rows of keys, and so many of roles, may stand in tables.
+const MOST_KEYS: usize = 4096;
+
+const MOST_ROLES: usize = 16384;
+
+/// Rows of which none says again what one before it says, and that are not too many.
+///
+/// A contract sees them as their list.
+#[derive(Drop)]
+pub struct RowList {
+    rows: Vec<Row>,
+    keys: usize,
+    roles: usize,
+}
+
+impl Model for RowList {
+    ghost use Rattle.std.specs.Prelude.{List};
+    ghost use Rattle.key_tables.specs.declared.types.Row.{Row};
+    ghost use Rattle.key_tables.specs.Build.{IsCounted};
+
+    ghost Value = { List Row };
+
+    ghost view = { λ list. list.rows.items };
+
+    ghost invariant = { λ list. IsCounted list.rows.items list.keys list.roles };
+}
+
+impl RowList {
+    #[tactic(auto, unfolding(crate::specs::Build::build_fault))]
+    pub(crate) fn new(alloc: Global) -> RowList
+        ensures { result ≡ [] }
+    {
+        RowList {
+            rows: Vec::new(alloc),
+            keys: 0,
+            roles: 0,
+        }
+    }
+
+    /// The rows, in their order.
+    pub fn as_slice(&self) -> &[Row]
+        ensures rows { result.now ≡ self.now }
+        ensures stand { build_fault self.now ≡ None }
+    {
+        &self.rows
+    }
+
+    /// Adds a row at the end, unless it may not stand there.
+    #[tactic(auto, unfolding(crate::specs::Build::row_fault))]
+    pub(crate) fn add(&mut self, row: Row) -> Result<(), BuildFault>
+        ensures added { OnOk result ((self.new ≡ self.old ++ row ∷ []) × (row_fault self.old row ≡ None)) }
+        ensures fault { IfErr result (λ fault. IsFault fault (row_fault self.old row)) }
+        ensures unchanged { OnErr result (self.new ≡ self.old) }
+    {
+        if self.is_repeated(&row) {
+            return Err(BuildFault::Twice(self.rows.len()));
+        }
+        if self.is_full(&row) {
+            return Err(BuildFault::TooMany(self.rows.len()));
+        }
+        self.push(row)
+    }
+
+    // Adds the rows in turn, up to the first that may not stand.
+    pub(crate) fn add_all(&mut self, rows: &[Row]) -> Result<(), BuildFault>
+        ensures added { OnOk result (Adds self.old self.new rows.now) }
+        ensures fault { IfErr result (λ fault. IsFault fault (first_fault self.old rows.now)) }
+    {
+        'rows: for row in rows {
+            self.add(*row)?;
+        }
+        Ok(())
+    }
+
+    // The same of the rows that none of the rows over them displaces.
+    pub(crate) fn add_kept(&mut self, rows: &[Row], over: &[Row]) -> Result<(), BuildFault>
+        ensures added { OnOk result (Adds self.old self.new (filter (is_kept over.now) rows.now)) }
+        ensures fault { IfErr result (λ fault. IsFault fault (first_fault self.old (filter (is_kept over.now) rows.now))) }
+    {
+        'rows: for row in rows {
+            if !is_displaced(over, row) {
+                self.add(*row)?;
+            }
+        }
+        Ok(())
+    }
+
+    fn push(&mut self, row: Row) -> Result<(), BuildFault>
+        requires room { is_full self.old row ≡ false }
+        requires stands { row_fault self.old row ≡ None }
+        ensures pushed { OnOk result (self.new ≡ self.old ++ row ∷ []) }
+        ensures fault { IfErr result (λ fault. fault ≡ BuildFault.NoMemory) }
+        ensures unchanged { OnErr result (self.new ≡ self.old) }
+    {
+        self.rows.push(row)?;
+        match row {
+            Row::Role { .. } => self.roles += 1,
+            Row::Group { .. } | Row::Tool { .. } => self.keys += 1,
+        }
+        Ok(())
+    }
+
+    fn is_repeated(&self, row: &Row) -> bool
+        ensures { result ≡ is_repeated self.now row.now }
+    {
+        self.rows.iter().any(|earlier| row.repeats(earlier))
+    }
+
+    fn is_full(&self, row: &Row) -> bool
+        ensures { result ≡ is_full self.now row.now }
+    {
+        match row {
+            Row::Role { .. } => self.roles >= MOST_ROLES,
+            Row::Group { .. } | Row::Tool { .. } => self.keys >= MOST_KEYS,
+        }
+    }
+}
+
+fn is_displaced(over: &[Row], row: &Row) -> bool
+    ensures { result ≡ is_displaced over.now row.now }
+{
+    over.iter().any(|other| row.displaces(other))
+}

@@ -1,0 +1,250 @@
+use crate::{
+    BuildFault, Channel, Lane, Level, Role, Row, RowList, Tables, TablesFault, read_tables,
+};
+use knx_base::{Cause, GroupAddr, IndAddr};
+use std::alloc::Global;
+use std::test::Fail;
+
+const KEY: [u8; 16] = [0, 1, 2, 3, 4, 5, 6, 7, 8, 9, 10, 11, 12, 13, 14, 15];
+
+const OTHER_KEY: [u8; 16] = [0xff; 16];
+
+const SENDER: IndAddr = IndAddr(0x1107);
+
+const DEVICE: IndAddr = IndAddr(0x1109);
+
+const TOOL: IndAddr = IndAddr(0x1101);
+
+const LAMP: Channel = Channel::Group(GroupAddr(0x0a03));
+
+const BLIND: Channel = Channel::Group(GroupAddr(0x0a04));
+
+const TEXT: &[u8] = b"# an installation
+group 1/2/3 000102030405060708090a0b0c0d0e0f conf\r
+role\t1/2/3 any observe
+
+group 2564 FFFFFFFFFFFFFFFFFFFFFFFFFFFFFFFF auth
+role 1/2/3 1.1.7 command
+tool 1.1.9 ffffffffffffffffffffffffffffffff
+role tool:1.1.9 1.1.1 manage";
+
+fn tables(alloc: Global, text: &[u8]) -> Result<Tables, Fail> {
+    let rows = read_tables(alloc, text)?;
+    Ok(Tables::build(alloc, rows.as_slice())?)
+}
+
+#[test]
+fn an_installation_is_read_and_asked(rt: HostRuntime) -> Result<(), Fail> {
+    let tables = tables(rt.alloc(), TEXT)?;
+    assert_eq!(rt; tables.key(LAMP), Some(KEY));
+    assert_eq!(rt; tables.key(Channel::Tool(DEVICE)), Some(OTHER_KEY));
+    assert_eq!(rt; tables.key(Channel::Tool(SENDER)), None);
+    assert_eq!(rt; tables.level(LAMP), Some(Level::Conf));
+    assert_eq!(rt; tables.level(BLIND), Some(Level::Auth));
+    assert_eq!(rt; tables.level(Channel::Tool(DEVICE)), Some(Level::Conf));
+    for (channel, sender, role) in [
+        (LAMP, SENDER, Some(Role::Command)),
+        (LAMP, DEVICE, Some(Role::Observe)),
+        (BLIND, SENDER, None),
+        (Channel::Tool(DEVICE), TOOL, Some(Role::Manage)),
+        (Channel::Tool(DEVICE), DEVICE, Some(Role::Observe)),
+        (Channel::Tool(DEVICE), SENDER, None),
+    ] {
+        assert_eq!(rt; tables.role(channel, sender), role);
+    }
+    Ok(())
+}
+
+#[test]
+fn a_frame_has_a_channel_by_its_destination_and_tool_access(rt: HostRuntime) -> Result<(), Fail> {
+    let tables = tables(rt.alloc(), TEXT)?;
+    for (group, tool, source, destination, channel) in [
+        (true, false, SENDER, 0x0a03, Some(LAMP)),
+        (true, true, SENDER, 0x0a03, None),
+        (true, false, SENDER, 0x0a05, None),
+        (false, true, TOOL, 0x1109, Some(Channel::Tool(DEVICE))),
+        (false, true, DEVICE, 0x1101, Some(Channel::Tool(DEVICE))),
+        (false, true, TOOL, 0x1107, None),
+        (false, false, TOOL, 0x1109, None),
+    ] {
+        assert_eq!(rt;
+            tables.channel_of(group, tool, source, destination),
+            channel
+        );
+    }
+    assert_eq!(rt; LAMP.lane(SENDER), Lane::Run(SENDER));
+    assert_eq!(rt; Channel::Tool(DEVICE).lane(TOOL), Lane::Tool(DEVICE, TOOL));
+    assert_eq!(rt; Role::Command.is_enough_for(Role::Observe), true);
+    assert_eq!(rt; Role::Command.is_enough_for(Role::Manage), false);
+    Ok(())
+}
+
+#[test]
+fn an_expanded_key_enciphers_as_the_standard_says(rt: HostRuntime) -> Result<(), Fail> {
+    let tables = tables(rt.alloc(), TEXT)?;
+    let key = tables.expanded_key(LAMP).ok_or("no key")?;
+    let mut block = *b"\x00\x11\x22\x33\x44\x55\x66\x77\x88\x99\xaa\xbb\xcc\xdd\xee\xff";
+    key.encrypt_block(&mut block);
+    assert_eq!(rt;
+        &block,
+        b"\x69\xc4\xe0\xd8\x6a\x7b\x04\x30\xd8\xcd\xb7\x80\x70\xb4\xc5\x5a"
+    );
+    Ok(())
+}
+
+const fn lamp_key(key: [u8; 16]) -> Row {
+    Row::Group {
+        address: GroupAddr(0x0a03),
+        key,
+        level: Level::Conf,
+    }
+}
+
+const fn tool_key(key: [u8; 16]) -> Row {
+    Row::Tool {
+        device: DEVICE,
+        key,
+    }
+}
+
+const fn role_on(channel: Channel, sender: Option<IndAddr>, role: Role) -> Row {
+    Row::Role {
+        channel,
+        sender,
+        role,
+    }
+}
+
+// One displaced row and one that is not, of keys and of roles.
+#[test]
+fn the_rows_over_displace_those_under(rt: HostRuntime) -> Result<(), Fail> {
+    let over = [role_on(LAMP, Some(SENDER), Role::Command), lamp_key(KEY)];
+    let under = [
+        role_on(BLIND, Some(SENDER), Role::Manage),
+        lamp_key(OTHER_KEY),
+        role_on(LAMP, Some(DEVICE), Role::Manage),
+        tool_key(OTHER_KEY),
+    ];
+    let tables = Tables::merge(rt.alloc(), &over, &under)?;
+    assert_eq!(rt; tables.key(LAMP), Some(KEY));
+    assert_eq!(rt; tables.key(Channel::Tool(DEVICE)), Some(OTHER_KEY));
+    assert_eq!(rt; tables.role(LAMP, SENDER), Some(Role::Command));
+    assert_eq!(rt; tables.role(LAMP, DEVICE), None);
+    assert_eq!(rt; tables.role(BLIND, SENDER), Some(Role::Manage));
+    Ok(())
+}
+
+#[test]
+fn the_place_of_a_fault_counts_the_merged_rows(rt: HostRuntime) {
+    let over = [lamp_key(KEY)];
+    let under = [
+        lamp_key(KEY),
+        tool_key(KEY),
+        role_on(LAMP, None, Role::Observe),
+        tool_key(OTHER_KEY),
+    ];
+    assert_eq!(rt;
+        fault_of(Tables::merge(rt.alloc(), &over, &under)),
+        Some(BuildFault::Twice(3))
+    );
+    assert_eq!(rt;
+        fault_of(Tables::build(rt.alloc(), &under)),
+        Some(BuildFault::Twice(3))
+    );
+}
+
+#[test]
+fn there_are_as_many_keys_as_may_be_and_no_more(rt: HostRuntime) -> Result<(), Fail> {
+    let mut rows = Vec::new(rt.alloc());
+    for device in 0..4097u16 {
+        rows.push(Row::Tool {
+            device: IndAddr(device),
+            key: KEY,
+        })?;
+    }
+    assert_eq!(rt; fault_of(Tables::build(rt.alloc(), &rows[..4096])), None);
+    assert_eq!(rt;
+        fault_of(Tables::build(rt.alloc(), &rows)),
+        Some(BuildFault::TooMany(4096))
+    );
+    Ok(())
+}
+
+fn fault_of(tables: Result<Tables, BuildFault>) -> Option<BuildFault> {
+    match tables {
+        Ok(_) => None,
+        Err(fault) => Some(fault),
+    }
+}
+
+fn text_fault(rows: Result<RowList, TablesFault>) -> Option<TablesFault> {
+    match rows {
+        Ok(_) => None,
+        Err(fault) => Some(fault),
+    }
+}
+
+#[test]
+fn the_first_bad_word_is_the_cause(rt: HostRuntime) {
+    for (line, cause) in [
+        (b"groups 1/2/3".as_slice(), Cause::Words),
+        (b"group 0 0 conf auth", Cause::Words),
+        (b"tool 1.1.9", Cause::Words),
+        (b"group 0/0/0 0 none", Cause::Address),
+        (
+            b"group 1/2/3 000102030405060708090a0b0c0d0e none",
+            Cause::Key,
+        ),
+        (
+            b"group 1/2/3 000102030405060708090a0b0c0d0e0f Conf",
+            Cause::Level,
+        ),
+        (b"tool 1.16.9 0", Cause::Address),
+        (
+            b"tool 1.1.9 0001020304050607 08090a0b0c0d0e0f",
+            Cause::Words,
+        ),
+        (b"tool 0.0.0 000102030405060708090a0b0c0d0e0g", Cause::Key),
+        (b"role 0 1 any", Cause::Address),
+        (b"role tool:1/2/3 any manage", Cause::Address),
+        (b"role 1/2/3 Any none", Cause::Address),
+        (b"role tool:0.0.0 0.0.0 none", Cause::Role),
+        (&[b' '; 1025], Cause::Long),
+        (b"role 1/2/3 any observe\r", Cause::Words),
+    ] {
+        assert_eq!(rt;
+            text_fault(read_tables(rt.alloc(), line)),
+            Some(TablesFault::Line(1, cause))
+        );
+    }
+}
+
+#[test]
+fn a_second_row_of_the_group_is_refused_at_its_line(rt: HostRuntime) {
+    let text = b"group 1/2/3 000102030405060708090a0b0c0d0e0f conf
+group 1/515 ffffffffffffffffffffffffffffffff auth
+no line";
+    assert_eq!(rt;
+        text_fault(read_tables(rt.alloc(), text)),
+        Some(TablesFault::Twice(2))
+    );
+}
+
+#[test]
+fn one_key_too_many_is_refused_at_its_line(rt: HostRuntime) -> Result<(), Fail> {
+    let mut text = String::new(rt.alloc());
+    for device in 0..4097u16 {
+        write!(
+            text,
+            "tool {}.{}.{} 000102030405060708090a0b0c0d0e0f\n",
+            device >> 12,
+            device >> 8 & 15,
+            device & 255
+        )?;
+    }
+    assert_eq!(rt;
+        text_fault(read_tables(rt.alloc(), text.as_bytes())),
+        Some(TablesFault::TooMany(4097))
+    );
+    Ok(())
+}
