@@ -16,7 +16,7 @@ pub(crate) fn data_refusal(
     tables: &Tables,
     kept: Number48,
     frame: &Frame<'_>,
-    entry: &Entry<'_>,
+    entry: &Entry<'_, '_>,
     apdu: &[u8],
 ) -> Option<Verdict>
     requires parts { HasParts frame.now.content.now entry.now.secure.field entry.now.secure.shown entry.now.secure.body.now }

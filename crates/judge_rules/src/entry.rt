@@ -24,15 +24,15 @@ pub(crate) const REQUEST: u8 = 2;
 pub(crate) const DATA: u8 = 0;
 
 /// A secure frame of a channel: the key, and the number under which it is to open.
-#[derive(Drop)]
-pub(crate) struct Entry<'a> {
-    pub(crate) secure: Secure<'a>,
+#[derive(Clone, Copy)]
+pub(crate) struct Entry<'f, 't> {
+    pub(crate) secure: Secure<'f>,
     pub(crate) channel: Channel,
-    pub(crate) key: Key128,
+    pub(crate) key: &'t Key128,
     pub(crate) number: Number48,
 }
 
-impl Entry<'_> {
+impl Entry<'_, '_> {
     pub(crate) fn service(&self) -> u8
         ensures { result ≡ self.now.secure.field % 8 }
     {
@@ -54,13 +54,13 @@ pub fn lane_of(tables: &Tables, frame: &Frame<'_>) -> Option<Lane>
 }
 
 // The parts of a secure frame, its channel, and the key of that.
-fn keyed<'a>(tables: &Tables, frame: &Frame<'a>) -> Result<(Secure<'a>, Channel, Key128), Verdict>
+fn keyed<'f, 't>(tables: &'t Tables, frame: &Frame<'f>) -> Result<(Secure<'f>, Channel, &'t Key128), Verdict>
     ensures { MatchResult result
         (λ found. (first_failing (lane_checks tables.now (telegram frame.now)) ≡ None)
         × HasParts frame.now.content.now found.0.field found.0.shown found.0.body.now
         × (bad_secure frame.now.content.now (frame.now.control2 / 128 % 2 == 1) ≡ None)
         × (channel_in tables.now (telegram frame.now) ≡ Some found.1)
-        × (key_of tables.now found.1 ≡ Some found.2))
+        × (key_of tables.now found.1 ≡ Some found.2.now))
         (λ verdict. first_failing (lane_checks tables.now (telegram frame.now)) ≡ Some verdict) }
 {
     let secure = match secure_parts(frame) {
@@ -91,15 +91,15 @@ pub fn secure_parts<'a>(frame: &Frame<'a>) -> Result<Secure<'a>, Verdict>
 }
 
 // The channel of a frame, and its key.
-fn keyed_channel(tables: &Tables, frame: &Frame<'_>, field: u8) -> Option<(Channel, Key128)>
+fn keyed_channel<'t>(tables: &'t Tables, frame: &Frame<'_>, field: u8) -> Option<(Channel, &'t Key128)>
     requires { field ≡ field_in (telegram frame.now) }
     ensures { MatchOption result
         (channel_in tables.now (telegram frame.now) ≡ None)
-        (λ found. (channel_in tables.now (telegram frame.now) ≡ Some found.0) × (key_of tables.now found.0 ≡ Some found.1)) }
+        (λ found. (channel_in tables.now (telegram frame.now) ≡ Some found.0) × (key_of tables.now found.0 ≡ Some found.1.now)) }
 {
     let channel = channel_of(tables, frame, field)?;
-    let key = tables.key(channel)?;
-    Some((channel, Key128::new(key)))
+    let key = tables.expanded_key(channel)?;
+    Some((channel, key))
 }
 
 #[tactic(auto, unfolding(crate::specs::Parts::channel_in))]
@@ -116,17 +116,17 @@ fn channel_of(tables: &Tables, frame: &Frame<'_>, field: u8) -> Option<Channel>
 }
 
 /// The checks before the code is looked at.
-pub(crate) fn enter<'a>(
-    tables: &Tables,
+pub(crate) fn enter<'f, 't>(
+    tables: &'t Tables,
     asked: Option<[u8; 6]>,
-    frame: &Frame<'a>,
-) -> Result<Entry<'a>, Verdict>
+    frame: &Frame<'f>,
+) -> Result<Entry<'f, 't>, Verdict>
     ensures { MatchResult result
         (λ entry. (first_failing (entry_checks tables.now asked (telegram frame.now)) ≡ None)
         × HasParts frame.now.content.now entry.secure.field entry.secure.shown entry.secure.body.now
         × (bad_secure frame.now.content.now (frame.now.control2 / 128 % 2 == 1) ≡ None)
         × (channel_in tables.now (telegram frame.now) ≡ Some entry.channel)
-        × (key_of tables.now entry.channel ≡ Some entry.key)
+        × (key_of tables.now entry.channel ≡ Some entry.key.now)
         × (entry.number ≡ number_in asked (telegram frame.now)))
         (λ verdict. first_failing (entry_checks tables.now asked (telegram frame.now)) ≡ Some verdict) }
 {

@@ -49,17 +49,17 @@ fn judge_entry(
     tables: &Tables,
     kept: Number48,
     frame: &Frame<'_>,
-    entry: &Entry<'_>,
+    entry: &Entry<'_, '_>,
     apdu: &mut ApduBuf,
 ) -> Judgement
     requires faultless { bad_secure frame.now.content.now (frame.now.control2 / 128 % 2 == 1) ≡ None }
     requires parts { HasParts frame.now.content.now entry.now.secure.field entry.now.secure.shown entry.now.secure.body.now }
-    requires key { key_of tables.now entry.now.channel ≡ Some entry.now.key }
+    requires key { key_of tables.now entry.now.channel ≡ Some entry.now.key.now }
     ensures verdict { result.verdict ≡ verdict_on tables.now kept entry.now.number entry.now.channel (telegram frame.now) }
     ensures keeps { result.keeps ≡ kept_on tables.now kept entry.now.number entry.now.channel (telegram frame.now) }
     ensures opened { apdu.new ≡ opened_on tables.now entry.now.number entry.now.channel (telegram frame.now) }
 {
-    match open_frame(&entry.key, frame, &entry.secure, entry.number, apdu) {
+    match open_frame(entry.key, frame, &entry.secure, entry.number, apdu) {
         Ok(()) => judge_opened(tables, kept, frame, entry, apdu.bytes()),
         Err(codes) => refused(Verdict::BadCode(codes)),
     }
@@ -70,7 +70,7 @@ fn judge_opened(
     tables: &Tables,
     kept: Number48,
     frame: &Frame<'_>,
-    entry: &Entry<'_>,
+    entry: &Entry<'_, '_>,
     apdu: &[u8],
 ) -> Judgement
     requires parts { HasParts frame.now.content.now entry.now.secure.field entry.now.secure.shown entry.now.secure.body.now }
@@ -96,7 +96,7 @@ fn judge_opened(
 fn opened_refusal(
     tables: &Tables,
     frame: &Frame<'_>,
-    entry: &Entry<'_>,
+    entry: &Entry<'_, '_>,
     apdu: &[u8],
 ) -> Option<Verdict>
     requires parts { HasParts frame.now.content.now entry.now.secure.field entry.now.secure.shown entry.now.secure.body.now }
@@ -110,7 +110,7 @@ fn opened_refusal(
     }
 }
 
-fn payload_refusal(frame: &Frame<'_>, entry: &Entry<'_>, apdu: &[u8]) -> Option<Verdict>
+fn payload_refusal(frame: &Frame<'_>, entry: &Entry<'_, '_>, apdu: &[u8]) -> Option<Verdict>
     requires parts { HasParts frame.now.content.now entry.now.secure.field entry.now.secure.shown entry.now.secure.body.now }
     requires twelve { sync_service (telegram frame.now) ≡ 3 → length apdu.now ≡ 12 }
     ensures { result ≡ check_payload entry.now.number (telegram frame.now) apdu.now }
@@ -167,7 +167,7 @@ fn last_verdict(
     tables: &Tables,
     kept: Number48,
     frame: &Frame<'_>,
-    entry: &Entry<'_>,
+    entry: &Entry<'_, '_>,
     apdu: &[u8],
 ) -> Verdict
     requires parts { HasParts frame.now.content.now entry.now.secure.field entry.now.secure.shown entry.now.secure.body.now }
@@ -205,7 +205,7 @@ fn data_verdict(
     tables: &Tables,
     kept: Number48,
     frame: &Frame<'_>,
-    entry: &Entry<'_>,
+    entry: &Entry<'_, '_>,
     apdu: &[u8],
 ) -> Verdict
     requires parts { HasParts frame.now.content.now entry.now.secure.field entry.now.secure.shown entry.now.secure.body.now }
@@ -223,7 +223,7 @@ fn data_verdict(
 }
 
 // The lane and the number that are kept of a frame whose code is right and whose sender may send.
-fn keeps(kept: Number48, frame: &Frame<'_>, entry: &Entry<'_>) -> Option<(Lane, Number48)>
+fn keeps(kept: Number48, frame: &Frame<'_>, entry: &Entry<'_, '_>) -> Option<(Lane, Number48)>
     requires parts { HasParts frame.now.content.now entry.now.secure.field entry.now.secure.shown entry.now.secure.body.now }
     ensures { result ≡ kept_of kept entry.now.number entry.now.channel (telegram frame.now) }
 {
