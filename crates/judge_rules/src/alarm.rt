@@ -28,5 +28,8 @@ pub fn is_alarm(tables: &Tables, frame: &Frame<'_>, verdict: &Verdict) -> bool
 fn is_keyed_group(tables: &Tables, frame: &Frame<'_>) -> bool
     ensures { result ≡ is_keyed_group tables.now (telegram frame.now) }
 {
-    frame.is_group() && tables.key(Channel::Group(GroupAddr(frame.destination))).is_some()
+    frame.is_group()
+        && tables
+            .key(Channel::Group(GroupAddr(frame.destination)))
+            .is_some()
 }

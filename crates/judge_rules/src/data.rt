@@ -74,12 +74,7 @@ fn level_refusal(tables: &Tables, channel: Channel, field: u8) -> Option<Verdict
 }
 
 // The sender's role is enough for the service, and the service is one of the channel's.
-fn right_refusal(
-    tables: &Tables,
-    channel: Channel,
-    source: IndAddr,
-    apdu: &[u8],
-) -> Option<Verdict>
+fn right_refusal(tables: &Tables, channel: Channel, source: IndAddr, apdu: &[u8]) -> Option<Verdict>
     requires two { 2 ≤ length apdu.now }
     ensures { result ≡ first_failing (check_role tables.now channel source (service_in apdu.now)
         ∷ check_upper (slice_index apdu.now 0) ∷ check_service channel (bits_in apdu.now) ∷ []) }

@@ -54,7 +54,10 @@ pub fn lane_of(tables: &Tables, frame: &Frame<'_>) -> Option<Lane>
 }
 
 // The parts of a secure frame, its channel, and the key of that.
-fn keyed<'f, 't>(tables: &'t Tables, frame: &Frame<'f>) -> Result<(Secure<'f>, Channel, &'t Key128), Verdict>
+fn keyed<'f, 't>(
+    tables: &'t Tables,
+    frame: &Frame<'f>,
+) -> Result<(Secure<'f>, Channel, &'t Key128), Verdict>
     ensures { MatchResult result
         (λ found. (first_failing (lane_checks tables.now (telegram frame.now)) ≡ None)
         × HasParts frame.now.content.now found.0.field found.0.shown found.0.body.now
@@ -91,7 +94,11 @@ pub fn secure_parts<'a>(frame: &Frame<'a>) -> Result<Secure<'a>, Verdict>
 }
 
 // The channel of a frame, and its key.
-fn keyed_channel<'t>(tables: &'t Tables, frame: &Frame<'_>, field: u8) -> Option<(Channel, &'t Key128)>
+fn keyed_channel<'t>(
+    tables: &'t Tables,
+    frame: &Frame<'_>,
+    field: u8,
+) -> Option<(Channel, &'t Key128)>
     requires { field ≡ field_in (telegram frame.now) }
     ensures { MatchOption result
         (channel_in tables.now (telegram frame.now) ≡ None)

@@ -81,7 +81,7 @@ fn judge_opened(
         → (result.verdict ≡ failed) × (result.keeps ≡ None) }
     ensures passed { first_failing (opened_checks tables.now entry.now.number entry.now.channel (telegram frame.now) apdu.now) ≡ None
         → (result.verdict ≡ verdict_or (good_verdict entry.now.number (telegram frame.now) apdu.now)
-            (first_failing (last_checks tables.now kept entry.now.number entry.now.channel (telegram frame.now) apdu.now)))
+        (first_failing (last_checks tables.now kept entry.now.number entry.now.channel (telegram frame.now) apdu.now)))
         × (result.keeps ≡ kept_of kept entry.now.number entry.now.channel (telegram frame.now)) }
 {
     match opened_refusal(tables, frame, entry, apdu) {
@@ -198,7 +198,9 @@ fn six_of(octets: &[u8]) -> [u8; 6]
     requires { length octets.now ≡ 6 }
     ensures { result ≡ octets.now }
 {
-    [octets[0], octets[1], octets[2], octets[3], octets[4], octets[5]]
+    [
+        octets[0], octets[1], octets[2], octets[3], octets[4], octets[5],
+    ]
 }
 
 fn data_verdict(

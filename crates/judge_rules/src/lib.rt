@@ -6,6 +6,8 @@ mod alarm;
 mod data;
 mod entry;
 mod judgement;
+#[cfg(test)]
+mod tests;
 mod text;
 mod verdict;
 
