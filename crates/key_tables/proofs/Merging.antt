@@ -106,23 +106,24 @@ role_displaces wanted (row.Role own _ _) other h = ap (λ c. is_channel c (role_
 key_part : {A : Type 0} (says : Row → Option A) (wanted : Channel) (over under : List Row)
     → ((row : Row) → is_key_row wanted row ≡ true → is_some (says row) ≡ true)
     → option_and_then says (find (is_key_row wanted) (merged over under))
-        ≡ option_or (option_and_then says (find (is_key_row wanted) over)) (option_and_then says (find (is_key_row wanted) under))
+    ≡ option_or (option_and_then says (find (is_key_row wanted) over)) (option_and_then says (find (is_key_row wanted) under))
 unfolding merged
 key_part {A} says wanted over under each =
     ap (option_and_then says) (find-append p over (filter (is_kept over) under))
-        ∙ or_then says (find p over) (find p (filter (is_kept over) under)) (found_where p says each over ∙ sym (find_where p over))
-        ∙ by (list_any p over) refl
+    ∙ or_then says (find p over) (find p (filter (is_kept over) under)) (found_where p says each over ∙ sym (find_where p over))
+    ∙ by (list_any p over) refl
   where
     p : Row → Bool
     p = is_key_row wanted
+
     by : (b : Bool) → list_any p over ≡ b
         → option_or (option_and_then says (find p over)) (option_and_then says (find p (filter (is_kept over) under)))
-            ≡ option_or (option_and_then says (find p over)) (option_and_then says (find p under))
+        ≡ option_or (option_and_then says (find p over)) (option_and_then says (find p under))
     by true e = some_or _ _ _ (found_where p says each over ∙ e)
     by false e =
         ap (λ row. option_or (option_and_then says (find p over)) (option_and_then says row))
-            (find_kept p (is_kept over)
-                (λ row h. ap not (sym (any_same p (displaces row) (λ other. key_displaces wanted row other h) over) ∙ e)) under)
+        (find_kept p (is_kept over)
+        (λ row h. ap not (sym (any_same p (displaces row) (λ other. key_displaces wanted row other h) over) ∙ e)) under)
 
 pub keys_merge : (over under : List Row) → KeysMerge over under
 unfolding key_of
@@ -142,28 +143,30 @@ named_part wanted sender over under =
   where
     p : Row → Bool
     p = is_role_row wanted sender
+
     on : Row → Bool
     on row = is_channel wanted (role_channel row)
+
     by : (b : Bool) → has_roles over wanted ≡ b
         → option_or (find p over) (find p (filter (is_kept over) under)) ≡ find p (if b then over else under)
     by true e =
         ap (option_or (find p over))
-            (find_dropped p (is_kept over)
-                (λ row h. ap not (sym (any_same on (displaces row)
-                    (λ other. role_displaces wanted row other (on_channel wanted sender row h)) over) ∙ e)) under)
-            ∙ or_none (find p over)
+        (find_dropped p (is_kept over)
+        (λ row h. ap not (sym (any_same on (displaces row)
+        (λ other. role_displaces wanted row other (on_channel wanted sender row h)) over) ∙ e)) under)
+        ∙ or_none (find p over)
     by false e =
         ap (λ row. option_or row (find p (filter (is_kept over) under)))
-            (no_some (find p over) (find_where p over ∙ none_stronger p on (on_channel wanted sender) over e))
-            ∙ find_kept p (is_kept over)
-            (λ row h. ap not (sym (any_same on (displaces row)
-                (λ other. role_displaces wanted row other (on_channel wanted sender row h)) over) ∙ e)) under
+        (no_some (find p over) (find_where p over ∙ none_stronger p on (on_channel wanted sender) over e))
+        ∙ find_kept p (is_kept over)
+        (λ row h. ap not (sym (any_same on (displaces row)
+        (λ other. role_displaces wanted row other (on_channel wanted sender row h)) over) ∙ e)) under
 
 pub roles_merge : (over under : List Row) → RolesMerge over under
 unfolding role_of
 roles_merge over under channel sender =
     ap (λ own. option_or own (option_or (named_role (merged over under) channel None) (device_role channel sender)))
-        (named_part channel (Some sender) over under)
-        ∙ ap (λ any. option_or (named_role (if has_roles over channel then over else under) channel (Some sender))
-            (option_or any (device_role channel sender)))
-        (named_part channel None over under)
+    (named_part channel (Some sender) over under)
+    ∙ ap (λ any. option_or (named_role (if has_roles over channel then over else under) channel (Some sender))
+    (option_or any (device_role channel sender)))
+    (named_part channel None over under)

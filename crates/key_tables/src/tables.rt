@@ -106,6 +106,8 @@ impl Tables {
         ensures there { is_some result ≡ (has_role self.now channel (Some sender) || has_role self.now channel None || is_own channel sender) }
         ensures own { EachSays self.now (is_role_row channel (Some sender)) row_role result }
         ensures any { has_role self.now channel (Some sender) ≡ false → EachSays self.now (is_role_row channel None) row_role result }
+        ensures device { has_role self.now channel (Some sender) ≡ false → has_role self.now channel None ≡ false → is_own channel sender ≡ true
+            → result ≡ Some Role.Observe }
     {
         match self.named_role(channel, Some(sender)) {
             Some(role) => Some(role),
@@ -118,6 +120,7 @@ impl Tables {
         ensures role { result ≡ option_or (named_role self.now channel None) (device_role channel sender) }
         ensures there { is_some result ≡ (has_role self.now channel None || is_own channel sender) }
         ensures any { EachSays self.now (is_role_row channel None) row_role result }
+        ensures device { has_role self.now channel None ≡ false → is_own channel sender ≡ true → result ≡ Some Role.Observe }
     {
         match self.named_role(channel, None) {
             Some(role) => Some(role),
