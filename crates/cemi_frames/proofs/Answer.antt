@@ -1,15 +1,14 @@
 -- What the reader's answer says of the octets.
-use Rattle.std.proofs.Common.{◌≡◌, ℕ, ◌+◌, ◌-◌, ◌<◌, ◌≤◌, Bool, true, false, cond, eqb, List, length, get_or, take, drop, Option, Some, None, Result, Ok, Err, ◌&&◌, inl, inr, refl, sym, ap, subst, ◌∙◌, arith}
+use Rattle.std.proofs.Common.{◌≡◌, ℕ, ◌+◌, ◌-◌, Bool, true, false, cond, eqb, List, length, take, drop, Result, Ok, Err, ◌&&◌, inl, inr, refl, sym, ap, subst, ◌∙◌, arith}
 use Rattle.std.specs.Prelude.{slice_index, slice_range, MatchResult, IfOk}
 use Rattle.std.proofs.lemmas.Bool.{cases_lt}
-use Rattle.std.proofs.lemmas.List.{length-take, length-drop, take_all, drop-drop}
-use Rattle.cemi_frames.specs.declared.frame.Code.{Code}
+use Rattle.std.proofs.lemmas.List.{length-take, take_all, drop-drop}
 use Rattle.cemi_frames.specs.declared.frame.Code.TheVariants.{Req, Ind, Con, Busmon}
 use Rattle.cemi_frames.specs.declared.frame.Frame.{Frame}
 use Rattle.cemi_frames.specs.declared.frame.NotFrame.{NotFrame}
 use Rattle.cemi_frames.specs.Frames.{Telegram, telegram, IsFrame, AreOctets}
 use Rattle.cemi_frames.specs.Faults.{body_place, body_of, is_standard, frame_fault}
-use Rattle.cemi_frames.specs.Reading.{data_frame, standard_frame, extended_frame, raw_frame, body_frame, code_at, frame_at, content_place, StandsAt, Reads}
+use Rattle.cemi_frames.specs.Reading.{raw_frame, body_frame, frame_at, content_place, StandsAt, Reads}
 use Rattle.cemi_frames.proofs.OneAnswer.{is_frame, frame_is_read}
 
 pub found_frame : (octets : List ℕ) (r : Result Frame NotFrame) → AreOctets octets → Reads r (frame_fault octets) (frame_at octets) → IfOk r (λ found. IsFrame octets (telegram found))

@@ -1,13 +1,13 @@
 -- The octets of a message of data, and of an extended frame before its check octet.
-use Rattle.std.proofs.Common.{◌≡◌, ◌≢◌, ℕ, suc, ◌+◌, ◌-◌, ◌*◌, ◌/◌, ◌%◌, ◌<◌, ◌≤◌, Bool, true, false, cond, eqb, ltb, List, [], ◌∷◌, ◌++◌, length, get_or, take, drop, Option, Some, None, refl, sym, ap, ◌∙◌, arith}
-use Rattle.std.proofs.lemmas.Bool.{eqb-false, eqb-true, ltb-false, le-ltb, ne_eqb, eq-eqb}
+use Rattle.std.proofs.Common.{◌≡◌, ◌≢◌, ℕ, suc, ◌+◌, ◌-◌, ◌*◌, ◌/◌, ◌%◌, ◌<◌, ◌≤◌, Bool, true, false, eqb, ltb, List, [], ◌∷◌, length, get_or, drop, None, refl, ap, ◌∙◌, arith}
+use Rattle.std.proofs.lemmas.Bool.{eqb-false, ltb-false, le-ltb, ne_eqb, eq-eqb}
 use Rattle.std.proofs.lemmas.List.{length-drop}
 use Rattle.cemi_frames.specs.declared.frame.Code.{Code}
 use Rattle.cemi_frames.specs.declared.frame.NotFrame.TheVariants as faults
-use Rattle.cemi_frames.specs.Fields.{Fields, word, long_octets}
-use Rattle.cemi_frames.specs.Frames.{Telegram, said_by, AreOctets}
+use Rattle.cemi_frames.specs.Fields.{Fields, long_octets}
+use Rattle.cemi_frames.specs.Frames.{said_by, AreOctets}
 use Rattle.cemi_frames.specs.Faults.{first_of, differ, data_tests}
-use Rattle.cemi_frames.specs.Reading.{word_at, long_fields, marked, data_frame}
+use Rattle.cemi_frames.specs.Reading.{long_fields, marked, data_frame}
 use Rattle.cemi_frames.proofs.Passing.{passed, differ-false}
 
 seven_octets : (body : List ℕ) → 7 ≤ length body → body ≡ get_or body 0 0 ∷ get_or body 1 0 ∷ get_or body 2 0 ∷ get_or body 3 0 ∷ get_or body 4 0 ∷ get_or body 5 0 ∷ get_or body 6 0 ∷ drop 7 body

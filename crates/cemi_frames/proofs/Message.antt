@@ -1,16 +1,15 @@
 -- The head of a message: its code, and additional information whose rows fit.
-use Rattle.std.proofs.Common.{◌≡◌, ◌≢◌, ℕ, zero, suc, ◌+◌, ◌-◌, ◌<◌, ◌≤◌, Bool, true, false, cond, eqb, ltb, List, [], ◌∷◌, ◌++◌, length, get_or, take, drop, Option, Some, None, refl, sym, ap, ◌∙◌, arith, append_assoc, length-append}
+use Rattle.std.proofs.Common.{◌≡◌, ℕ, zero, suc, ◌+◌, ◌<◌, ◌≤◌, Bool, true, false, cond, eqb, ltb, List, [], ◌∷◌, ◌++◌, length, get_or, take, drop, Option, Some, None, refl, sym, ap, ◌∙◌, arith, append_assoc, length-append}
 use Rattle.std.specs.Prelude.{is_some, unwrap_or}
 use Rattle.std.specs.List.{flat_map}
-use Rattle.std.proofs.lemmas.Bool.{eq-eqb, ne_eqb, eqb-false, ltb-true, ltb-false, le-ltb}
+use Rattle.std.proofs.lemmas.Bool.{ne_eqb, ltb-true, ltb-false, le-ltb}
 use Rattle.std.proofs.lemmas.List.{length-drop, length-take, take-append-drop, take_at, drop_at, drop-drop}
 use Rattle.std.proofs.lemmas.List.Concat.{flat_map-cons}
 use Rattle.cemi_frames.specs.declared.frame.NotFrame.TheVariants as faults
 use Rattle.cemi_frames.specs.Fields.{InfoRow, row_octets, info_octets, message}
-use Rattle.cemi_frames.specs.Faults.{Refusal, first_of, opposite, misfit, info_misfit, body_place, body_of, is_code, head_tests}
+use Rattle.cemi_frames.specs.Faults.{first_of, opposite, misfit, info_misfit, body_place, body_of, is_code, head_tests}
 use Rattle.cemi_frames.specs.Law.{IsFirstMisfit, info_of}
 use Rattle.cemi_frames.proofs.Passing.{passed, opposite-false}
-use Rattle.cemi_frames.proofs.Info.{misfit-enough}
 
 -- Rows fit, one behind the other.
 pub misfit-rows : (n place : ℕ) (rows : List InfoRow) → length (flat_map row_octets rows) ≤ n → misfit n place (flat_map row_octets rows) ≡ None

@@ -1,5 +1,5 @@
 -- Octets are exactly one frame, or have exactly one fault.
-use Rattle.std.proofs.Common.{◌≡◌, ℕ, ◌+◌, ◌-◌, ◌*◌, ◌/◌, ◌%◌, ◌<◌, ◌≤◌, Bool, true, false, cond, eqb, List, [], ◌∷◌, ◌++◌, length, get_or, take, drop, Option, Some, None, ◌⊎◌, inl, inr, ◌||◌, refl, sym, ap, subst, ◌∙◌, arith}
+use Rattle.std.proofs.Common.{◌≡◌, ℕ, ◌+◌, ◌-◌, ◌<◌, ◌≤◌, Bool, true, false, cond, eqb, List, length, take, drop, Option, Some, None, inl, inr, ◌||◌, refl, sym, ap, subst, ◌∙◌, arith}
 use Rattle.std.specs.Prelude.{slice_index, MatchOption}
 use Rattle.std.proofs.lemmas.Bool.{eqb-true}
 use Rattle.std.proofs.lemmas.List.{length-drop, get_or-drop}
@@ -9,7 +9,7 @@ use Rattle.cemi_frames.specs.declared.frame.NotFrame.{NotFrame}
 use Rattle.cemi_frames.specs.Fields.{InfoRow, Fields, long_octets, standard_octets, checked, message}
 use Rattle.cemi_frames.specs.Frames.{Telegram, said_by, repeat_mark, IsData, IsStandard, IsExtended, IsCase, IsFrame, AreOctets}
 use Rattle.cemi_frames.specs.Faults.{first_of, head_tests, data_tests, raw_tests, body_tests, body_place, body_of, is_code, frame_fault}
-use Rattle.cemi_frames.specs.Reading.{long_fields, standard_fields, marked, data_frame, standard_frame, extended_frame, raw_frame, code_at, body_frame, frame_at}
+use Rattle.cemi_frames.specs.Reading.{long_fields, standard_fields, marked, data_frame, raw_frame, code_at, body_frame, frame_at}
 use Rattle.cemi_frames.specs.Law.{HasOneAnswer}
 use Rattle.cemi_frames.proofs.FirstFault.{body_fault, first_of-body, frame_fault-body}
 use Rattle.cemi_frames.proofs.Passing.{first_of-none}

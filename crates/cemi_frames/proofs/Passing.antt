@@ -1,5 +1,5 @@
 -- Where no refusal applies, each test was passed.
-use Rattle.std.proofs.Common.{◌≡◌, ◌≢◌, ℕ, ◌+◌, Bool, true, false, cond, eqb, List, [], ◌∷◌, ◌++◌, Option, Some, None, refl, sym, ap, ◌∙◌}
+use Rattle.std.proofs.Common.{◌≡◌, ℕ, Bool, true, false, cond, eqb, List, [], ◌∷◌, ◌++◌, Option, Some, None, refl}
 use Rattle.std.proofs.lemmas.Bool.{eqb-true}
 use Rattle.cemi_frames.specs.declared.frame.NotFrame.{NotFrame}
 use Rattle.cemi_frames.specs.Faults.{Refusal, first_of, opposite, differ}

@@ -1,14 +1,14 @@
 -- Raw frames: the octets of a standard or an extended frame, and their check octet.
-use Rattle.std.proofs.Common.{◌≡◌, ◌≢◌, ℕ, suc, ◌+◌, ◌-◌, ◌*◌, ◌/◌, ◌%◌, ◌<◌, ◌≤◌, Bool, true, false, cond, eqb, ltb, List, [], ◌∷◌, ◌++◌, length, get_or, take, drop, Option, Some, None, ◌⊎◌, inl, inr, ◌||◌, refl, sym, ap, subst, ◌∙◌, arith, length-append}
+use Rattle.std.proofs.Common.{◌≡◌, ◌≢◌, ℕ, suc, ◌+◌, ◌-◌, ◌*◌, ◌/◌, ◌%◌, ◌<◌, ◌≤◌, Bool, true, false, cond, eqb, ltb, List, [], ◌∷◌, ◌++◌, length, get_or, take, drop, None, ◌⊎◌, inl, inr, ◌||◌, refl, sym, ap, ◌∙◌, arith, length-append}
 use Rattle.std.proofs.lemmas.Bool.{cases_lt, eqb-false, eqb-true, ltb-false, le-ltb, ne_eqb, eq-eqb}
-use Rattle.std.proofs.lemmas.List.{length-drop, length-take, get_or-take, get_or_past, take_at, take_all, drop-take, drop_at}
+use Rattle.std.proofs.lemmas.List.{length-drop, length-take, get_or-take, get_or_past, take_at, take_all, drop-take}
 use Rattle.std.proofs.Math.Seq.{take-suc, get_or-append_seam}
 use Rattle.cemi_frames.specs.declared.frame.Code.TheVariants.{Busmon}
 use Rattle.cemi_frames.specs.declared.frame.NotFrame.TheVariants as faults
-use Rattle.cemi_frames.specs.Fields.{Fields, word, long_octets, standard_octets, check_octet, checked}
+use Rattle.cemi_frames.specs.Fields.{Fields, long_octets, standard_octets, check_octet, checked}
 use Rattle.cemi_frames.specs.Frames.{Telegram, said_by, repeat_mark, AreOctets}
 use Rattle.cemi_frames.specs.Faults.{first_of, opposite, differ, check_test, standard_tests, extended_tests, is_standard, is_extended, raw_tests}
-use Rattle.cemi_frames.specs.Reading.{word_at, long_fields, standard_fields, standard_frame, extended_frame, raw_frame}
+use Rattle.cemi_frames.specs.Reading.{long_fields, standard_fields, standard_frame, extended_frame, raw_frame}
 use Rattle.cemi_frames.proofs.Passing.{passed, opposite-false, differ-false}
 use Rattle.cemi_frames.proofs.Long.{long_octets-fields, said_by-long}
 

@@ -1,7 +1,7 @@
 -- Octets that are put one behind the other at the front of a buffer.
-use Rattle.std.proofs.Common.{◌≡◌, ℕ, ◌+◌, ◌-◌, ◌≤◌, List, [], ◌∷◌, ◌++◌, length, take, drop, refl, sym, ap, ◌∙◌, arith, append_assoc}
+use Rattle.std.proofs.Common.{◌≡◌, ℕ, ◌+◌, ◌-◌, ◌≤◌, List, [], ◌∷◌, ◌++◌, take, drop, refl, sym, ap, ◌∙◌, arith}
 use Rattle.std.proofs.lemmas.List.{take-append-drop, drop-take}
-use Rattle.cemi_frames.specs.Fields.{check_octet, checked, message, info_octets}
+use Rattle.cemi_frames.specs.Fields.{message, info_octets}
 
 pub front_and_rest : (n : ℕ) (text old new : List ℕ) → take n new ≡ text → drop n new ≡ drop n old → new ≡ text ++ drop n old
 front_and_rest n text old new front rest = sym (take-append-drop n new) ∙ rw (front, rest) refl

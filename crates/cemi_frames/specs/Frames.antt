@@ -1,6 +1,5 @@
 -- Which octets are which frame: one case for each message code and format.
-use Rattle.std.specs.Prelude.{◌≡◌, ℕ, ◌+◌, ◌*◌, ◌/◌, ◌%◌, ◌<◌, ◌≤◌, ◌⊎◌, List, [], ◌∷◌, ◌++◌, length, slice_index, Bool, true, false, ◌==◌}
-use Rattle.knx_base.specs.declared.address.IndAddr.{IndAddr}
+use Rattle.std.specs.Prelude.{◌≡◌, ℕ, ◌/◌, ◌%◌, ◌<◌, ◌≤◌, ◌⊎◌, List, length, slice_index, Bool, false, ◌==◌}
 use Rattle.cemi_frames.specs.declared.frame.Code.{Code}
 use Rattle.cemi_frames.specs.declared.frame.Code.TheVariants.{Req, Ind, Con, Busmon}
 use Rattle.cemi_frames.specs.declared.frame.Frame.{Frame}

@@ -30,8 +30,8 @@ pub struct Frame<'a> {
     pub destination: u16,
     /// The octet of transport control and what stands after it.
     pub content: &'a [u8],
-    ghost not_empty: { 0 < length content.now },
-    ghost fits: { length content.now ≤ 255 },
+    pub ghost not_empty: { 0 < length content.now },
+    pub ghost fits: { length content.now ≤ 255 },
 }
 
 impl Frame<'_> {

@@ -1,7 +1,7 @@
 ghost use Rattle.std.specs.Prelude.{◌≡◌, ◌+◌, ◌<◌, ◌≤◌, [], ◌∷◌, ◌++◌, length, take, drop, false};
 ghost use Rattle.cemi_frames.specs.Fields.{long_octets, standard_octets, checked, message};
 ghost use Rattle.cemi_frames.specs.Frames.{IsFrame};
-ghost use Rattle.cemi_frames.specs.Writing.{fields_of, data_octets, raw_octets, written_frame, written_control, written_control2};
+ghost use Rattle.cemi_frames.specs.Writing.{parts_of, fields_of, data_octets, raw_octets, written_frame, written_control, written_control2};
 
 use crate::frame::Code;
 use crate::reading::check_of;
@@ -25,8 +25,8 @@ pub fn write_ldata(parts: &FrameParts<'_>, out: &mut [u8]) -> usize
     requires room { length parts.now.content.now + 9 ≤ length out.old }
 
     ensures length { result ≡ length parts.now.content.now + 9 }
-    ensures octets { out.new ≡ data_octets parts.now ++ drop result out.old }
-    ensures reads_back { IsFrame (data_octets parts.now) (written_frame Code.Ind parts.now) }
+    ensures octets { out.new ≡ data_octets (parts_of parts.now) ++ drop result out.old }
+    ensures reads_back { IsFrame (data_octets (parts_of parts.now)) (written_frame Code.Ind (parts_of parts.now)) }
 {
     let after = put(&[0x29, 0], 0, out);
     let after = put(&long_header(parts), after, out);
@@ -40,9 +40,9 @@ pub fn write_busmon(parts: &FrameParts<'_>, out: &mut [u8]) -> usize
     requires fits { length parts.now.content.now ≤ 255 }
     requires room { length parts.now.content.now + 10 ≤ length out.old }
 
-    ensures length { result ≡ length (raw_octets parts.now) }
-    ensures octets { out.new ≡ raw_octets parts.now ++ drop result out.old }
-    ensures reads_back { IsFrame (raw_octets parts.now) (written_frame Code.Busmon parts.now) }
+    ensures length { result ≡ length (raw_octets (parts_of parts.now)) }
+    ensures octets { out.new ≡ raw_octets (parts_of parts.now) ++ drop result out.old }
+    ensures reads_back { IsFrame (raw_octets (parts_of parts.now)) (written_frame Code.Busmon (parts_of parts.now)) }
 {
     if parts.content.len() <= 16 {
         write_raw(&standard_header(parts), parts.content, out)
@@ -68,7 +68,7 @@ fn write_raw(header: &[u8], content: &[u8], out: &mut [u8]) -> usize
 fn long_header(parts: &FrameParts<'_>) -> [u8; 7]
     requires not_empty { 0 < length parts.now.content.now }
     requires fits { length parts.now.content.now ≤ 255 }
-    ensures { result ++ parts.now.content.now ≡ long_octets (fields_of parts.now) }
+    ensures { result ++ parts.now.content.now ≡ long_octets (fields_of (parts_of parts.now)) }
 {
     let [s1, s0] = parts.source.0.to_be_bytes();
     let [d1, d0] = parts.destination.to_be_bytes();
@@ -89,7 +89,7 @@ fn long_header(parts: &FrameParts<'_>) -> [u8; 7]
 fn standard_header(parts: &FrameParts<'_>) -> [u8; 6]
     requires not_empty { 0 < length parts.now.content.now }
     requires fits { length parts.now.content.now ≤ 16 }
-    ensures { result ++ parts.now.content.now ≡ standard_octets (fields_of parts.now) }
+    ensures { result ++ parts.now.content.now ≡ standard_octets (fields_of (parts_of parts.now)) }
 {
     let [s1, s0] = parts.source.0.to_be_bytes();
     let [d1, d0] = parts.destination.to_be_bytes();

@@ -6,3 +6,6 @@ mod Pieces
 mod AddressLemmas
 pub mod Places
 mod LineTexts
+pub mod Readers
+mod LineReads
+mod WholeFiles

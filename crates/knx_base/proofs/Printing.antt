@@ -1,8 +1,9 @@
 -- Texts that are appended to a sink in pieces.
-use Rattle.std.proofs.Common.{◌≡◌, ℕ, ◌-◌, List, [], ◌++◌, length, take, drop, Option, Some, None, Result, Ok, Err, refl, ap, ◌∙◌, append_assoc, append-nil, take-append-drop}
+use Rattle.std.proofs.Common.{◌≡◌, ℕ, ◌-◌, List, [], ◌++◌, length, take, drop, Option, Some, None, Result, Ok, Err, refl, sym, ap, ◌∙◌, append_assoc, append-nil, take-append-drop}
+use Rattle.std.specs.Result.{IsErr}
 use Rattle.std.specs.Io.KnownBytes.{append_known}
 use Rattle.std.proofs.lemmas.List.{take_rest}
-use Rattle.knx_base.specs.Sink.{Prints}
+use Rattle.knx_base.specs.Sink.{AppendsPrefix, Prints}
 
 -- nothing was appended
 pub append_known-nil : (known : Option (List ℕ)) → append_known known [] ≡ known
@@ -39,3 +40,13 @@ prints_then old mid new (Err e) front back before printed =
       (printed.1.0, append_assoc front begun printed.1.0 ∙ ap (λ both. front ++ both) printed.1.1),
       printed.2 ∙ ap (λ known. append_known known begun) before ∙ append_known-append old front begun,
     )
+
+-- a text was printed in part, and what was to come after it not at all
+pub prints_no_more : {T E : Type 0} (old new : Option (List ℕ)) (result : Result T E) (front back : List ℕ)
+    → IsErr result → AppendsPrefix old new front → Prints old new result (front ++ back)
+prints_no_more old new (Ok x) front back failed begun = absurd cc
+prints_no_more old new (Err e) front back failed begun = (
+  begun.0,
+  (begun.1.0 ++ back, sym (append_assoc begun.0 begun.1.0 back) ∙ ap (λ both. both ++ back) begun.1.1),
+  begun.2,
+)

@@ -10,3 +10,4 @@ pub mod Decimal
 pub mod Address
 pub mod Cause
 pub mod Lines
+pub mod Reading

@@ -1,8 +1,8 @@
-ghost use Rattle.std.specs.Prelude.{◌≡◌, ℕ, ◌≤◌, ◌<◌, None, Some, [], Option, List, length, IfOk, false};
+ghost use Rattle.std.specs.Prelude.{◌≡◌, ℕ, ◌≤◌, ◌<◌, None, Some, [], Option, List, length, IsSome, IsErr, IfOk};
 ghost use Rattle.std.specs.Option.{option_map};
 ghost use Rattle.std.specs.Io.{ReadsAtMost};
 ghost use Rattle.knx_base.specs.Faults.{counted};
-ghost use Rattle.knx_base.specs.Files.{Seen};
+ghost use Rattle.knx_base.specs.Files.{Seen, Reads, last_place};
 ghost use Rattle.knx_base.specs.Host.{HostState, seen_of};
 
 use crate::{Failed, Files, LAST_PLACE, Sink};
@@ -93,7 +93,12 @@ impl<R: rt::Files> Files for HostFiles<'_, R> {
         }
     }
 
-    fn read(&mut self, buffer: &mut [u8]) -> Result<usize, Failed> {
+    fn read(&mut self, buffer: &mut [u8]) -> Result<usize, Failed>
+        requires room { 0 < length buffer.old }
+        requires current { IsSome self.old.current }
+        ensures reads { Reads (seen_of self.old) (seen_of self.new) buffer.new result }
+        ensures at_the_last_place { last_place ≤ self.old.place → IsErr result }
+    {
         if let Some(file) = &mut self.file
             && self.place < LAST_PLACE
         {

@@ -15,8 +15,11 @@ mod mem_sink;
 mod number;
 mod shelf;
 mod sink;
+mod source;
 #[cfg(test)]
 mod tests;
+mod text_line;
+mod whole_file;
 
 pub use address::{GroupAddr, IndAddr};
 pub use cause::Cause;
@@ -30,3 +33,6 @@ pub use mem_files::MemFiles;
 pub use mem_sink::MemSink;
 pub use number::Number48;
 pub use sink::{Sink, print_text};
+pub use source::Source;
+pub use text_line::{LineRead, TextLine, read_line};
+pub use whole_file::{FileFault, read_all};

@@ -96,6 +96,7 @@ impl Files for MemFiles {
         ensures counted { self.new.calls ≡ counted self.old.calls }
         ensures faults { self.new.faults ≡ (if is_armed self.old then counted self.old.faults else self.old.faults) }
         ensures armed { self.new.armed ≡ self.old.armed }
+        ensures only_closed { OnErr result (self.new ≡ record self.old { current = None; calls = counted self.old.calls; faults = counted self.old.faults }) }
     {
         if self.is_armed() {
             self.count_failure();
@@ -116,6 +117,7 @@ impl Files for MemFiles {
         ensures counted { self.new.calls ≡ counted self.old.calls }
         ensures faults { self.new.faults ≡ (if is_armed self.old then counted self.old.faults else self.old.faults) }
         ensures armed { self.new.armed ≡ self.old.armed }
+        ensures unmoved { OnErr result (self.new ≡ record self.old { calls = counted self.old.calls; faults = counted self.old.faults }) }
     {
         if self.is_armed() {
             self.count_failure();

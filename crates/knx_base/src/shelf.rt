@@ -5,7 +5,7 @@ ghost use Rattle.std.specs.String.{string_bytes};
 ghost use Rattle.knx_base.specs.Files.{IsThere, IsAtStart, MovesOn, octets_named};
 ghost use Rattle.knx_base.specs.Shelf.{Stored, ShelfState, FirstAt, file_of, name_at, seen_in_memory};
 
-use crate::{LAST_PLACE, NoMemory};
+use crate::NoMemory;
 use std::alloc::Global;
 use std::marker::Model;
 

@@ -1,6 +1,4 @@
-ghost use Rattle.std.specs.Prelude.{◌≡◌, ◌≤◌, ◌+◌, ℕ, List, [], ◌∷◌, ◌++◌, length, take, Bool};
-ghost use Rattle.knx_base.specs.Number.{octets_of};
-ghost use Rattle.aes_modes.specs.Modes.{with_stream};
+ghost use Rattle.std.specs.Prelude.{◌≡◌, ◌≤◌, ◌+◌, length};
 ghost use Rattle.knx_ccm.specs.Sealing.{is_confidential, nonce_of, block_0, counter_0, two_octets, encrypted_length, readable_length, code_of, ciphered};
 
 use crate::Head;

@@ -1,4 +1,4 @@
-ghost use Rattle.std.specs.Prelude.{◌≡◌, ◌≢◌, ◌≤◌, ◌+◌, ◌-◌, ℕ, List, ◌++◌, length, take, drop, replicate, Some, None, IfOk, IfErr, MatchResult};
+ghost use Rattle.std.specs.Prelude.{◌≡◌, ◌≢◌, ◌≤◌, ◌+◌, ◌-◌, ℕ, List, length, take, drop, replicate, Some, None, IfOk, IfErr, MatchResult};
 ghost use Rattle.std.specs.Result.{IsOkAnd};
 ghost use Rattle.knx_ccm.specs.Sealing.{algorithm, line_of, opened, said_code, computed_code, Opens, AreCodes};
 
@@ -16,7 +16,8 @@ pub struct CodeDiffers {
     pub computed: [u8; 4],
 }
 
-/// Writes the one APDU that seals to `body` and answers its length, four less than that of `body`.
+/// Writes the one APDU that seals to `body`, an APDU of at most 242 octets and its code of four, and answers its length (the sealing of
+/// docs/RULES.md, backwards).
 ///
 /// Where no APDU seals to it, `out` has zeros in the place of the APDU.
 pub fn open(key: &Key128, head: &Head, body: &[u8], out: &mut [u8]) -> Result<usize, CodeDiffers>

@@ -1,4 +1,4 @@
-ghost use Rattle.std.specs.Prelude.{◌≡◌, ◌≤◌, ◌+◌, ℕ, ◌++◌, length, take, drop};
+ghost use Rattle.std.specs.Prelude.{◌≡◌, ◌≤◌, ◌+◌, ◌++◌, length, take, drop};
 ghost use Rattle.knx_ccm.specs.Sealing.{algorithm, sealed};
 
 use crate::Head;
@@ -8,7 +8,8 @@ use aes_modes::Key128;
 /// The most octets of an APDU that is sealed.
 pub(crate) const MOST_APDU: usize = 242;
 
-/// Writes the APDU as it stands on the wire, and its code of four octets after it, and answers their length.
+/// Writes an APDU of at most 242 octets as it stands on the wire, and its code of four octets after it, and answers their length (the
+/// sealing of docs/RULES.md).
 pub fn seal(key: &Key128, head: &Head, apdu: &[u8], out: &mut [u8]) -> usize
     requires algorithm { algorithm head.now ≤ 1 }
     requires short { length apdu.now ≤ 242 }

@@ -7,8 +7,8 @@ use Rattle.knxsec_app.specs.declared.status.Status.{Status}
 use Rattle.knxsec_app.specs.declared.status.Status.TheVariants.{Done, Alarm, Usage, Refused, ReadFault, WriteFault, NoMemory}
 use Rattle.hex.specs.Hex.{encode_lower}
 use Rattle.knxsec_app.specs.Words.{Asked, Open, command_of}
-use Rattle.knxsec_app.specs.declared.verdict.Verdict.{Verdict}
-use Rattle.knxsec_app.specs.Verdict.{verdict_text}
+use Rattle.judge_rules.specs.declared.verdict.Verdict.{Verdict}
+use Rattle.judge_rules.specs.Text.{verdict_text}
 use Rattle.knxsec_app.specs.Opening.{refusal_of, apdu_of}
 
 pub record Answer : Type 0 where
@@ -23,7 +23,7 @@ usage_line =
 -- the APDU in hexadecimal, or the verdict
 abbrev pub opening_answer : Option Verdict → List ℕ → Answer
 opening_answer None apdu = record { report = encode_lower apdu ++ 10 ∷ []; status = Done }
-opening_answer (Some verdict) apdu = record { report = verdict_text verdict ++ 10 ∷ []; status = Alarm }
+opening_answer (Some verdict) apdu = record { report = verdict_text verdict [] ++ 10 ∷ []; status = Alarm }
 
 -- the answer to what was asked, where these are the files
 abbrev pub answer_to : Option Asked → List File → Answer

@@ -2,5 +2,4 @@ pub mod Status
 pub mod Words
 pub mod Asked
 pub mod Answer
-pub mod Verdict
 pub mod Opening

@@ -8,7 +8,6 @@ mod status;
 #[cfg(test)]
 mod tests;
 mod top;
-mod verdict;
 mod words;
 
 pub use status::Status;

@@ -6,14 +6,14 @@ ghost use Rattle.knx_base.specs.Sink.{Prints};
 ghost use Rattle.knxsec_app.specs.Answer.{Answers, answer_to, opening_answer, IsOfAnswer};
 ghost use Rattle.knxsec_app.specs.Asked.{asked_of};
 ghost use Rattle.knxsec_app.specs.Opening.{refusal_of, apdu_of};
-ghost use Rattle.knxsec_app.specs.Verdict.{verdict_text};
+ghost use Rattle.judge_rules.specs.Text.{verdict_text};
 
 use crate::Status;
 use crate::frame_word::FrameWord;
 use crate::opening::refuse;
-use crate::verdict::{Verdict, write_verdict};
 use crate::words::Command;
 use aes_modes::Key128;
+use judge_rules::{Verdict, write_verdict};
 use knx_base::{Failed, LineBuf, Sink, print_text};
 use secure_apdu::ApduBuf;
 
@@ -65,10 +65,10 @@ fn print_apdu<S: Sink>(apdu: &ApduBuf, out: &mut S) -> Result<(), Failed>
 }
 
 fn print_refusal<S: Sink>(verdict: &Verdict, out: &mut S) -> Result<(), Failed>
-    ensures text { Prints (S.octets out.old) (S.octets out.new) result (verdict_text verdict.now ++ 10 ∷ []) }
+    ensures text { Prints (S.octets out.old) (S.octets out.new) result (verdict_text verdict.now [] ++ 10 ∷ []) }
     ensures cause { HasCause (S.faults out.old) (S.faults out.new) result }
 {
-    write_verdict(verdict, out)?;
+    write_verdict(verdict, &[], out)?;
     print_text(b"\n", out)
 }
 

@@ -13,9 +13,6 @@ greatest-comm None (Some b) = refl
 greatest-comm (Some a) None = refl
 greatest-comm (Some a) (Some b) = ap Some (omega arith)
 
-pub greatest-none : (a : Option ℕ) → greatest None a ≡ a
-greatest-none a = refl
-
 -- The copy beside the place is the greatest: it is current.
 beside_by : (le : Bool) (a b at : ℕ) → nat_le b a ≡ le
     → ((cond le (at + 7) at ≡ at) × (greatest (Some a) (Some b) ≡ Some b)) ⊎ ((cond le (at + 7) at ≡ at + 7) × (greatest (Some a) (Some b) ≡ Some a))

@@ -59,6 +59,22 @@ fn a_raise_that_is_cut_leaves_the_old_number_or_the_new(rt: HostRuntime) -> Resu
 }
 
 #[test]
+fn a_raise_writes_the_copy_that_is_not_current(rt: HostRuntime) -> Result<(), Fail> {
+    let mut memory = SimNvm::new(rt.alloc(), SIZE)?;
+    assert_eq!(rt; format_cell(&mut memory, 0, number(0)?), Ok(()));
+    assert_eq!(rt;
+        memory.image(),
+        [0xa5, 0, 0, 0, 0, 0, 0, 0, 0, 0, 0, 0, 0, 0].as_slice()
+    );
+    assert!(rt; raise(&mut memory, 64)?);
+    assert_eq!(rt;
+        memory.image(),
+        [0xa5, 0, 0, 0, 0, 0, 0, 0xa5, 0, 0, 0, 0, 0, 0x40].as_slice()
+    );
+    Ok(())
+}
+
+#[test]
 fn fourteen_zero_octets_are_unformatted(rt: HostRuntime) -> Result<(), Fail> {
     let mut memory = SimNvm::new(rt.alloc(), SIZE)?;
     assert_eq!(rt; read_cell(&mut memory, 0), Err(CellFault::Unformatted));

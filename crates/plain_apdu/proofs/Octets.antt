@@ -5,7 +5,7 @@ use Rattle.std.proofs.lemmas.List.{take_all}
 use Rattle.std.proofs.lemmas.Grind.{and_numeral}
 use Rattle.plain_apdu.specs.declared.service.Service.{Service}
 use Rattle.plain_apdu.specs.Service.{service_of}
-use Rattle.plain_apdu.specs.Apdu.{Inner, inner, inner_of, apci_of, apdu_of, IsInner}
+use Rattle.plain_apdu.specs.Apdu.{Inner, inner, inner_of, apci_of, IsInner}
 
 two_octets : (octets : List ℕ) → 2 ≤ length octets → octets ≡ get_or octets 0 0 ∷ get_or octets 1 0 ∷ take (length octets - 2) (drop 2 octets)
 two_octets [] long = absurd (omega arith)
@@ -26,6 +26,7 @@ inner_of-octets octets bits service long low octet bits_is service_is =
     let upper : bits / 256 ≡ get_or octets 0 0 = omega arith in
     let lower : bits % 256 ≡ get_or octets 1 0 = omega arith in
     let short : bit_and (get_or octets 1 0) 63 ≡ bits % 64 = grind (arith, and_numeral) in
-    let found : read_parts octets service ≡ inner bits (take (length octets - 2) (drop 2 octets)) = rw (service_is, short) refl in
-    (ap (λ (i : Inner). Ok i) found ∙ sym (ap inner_of parts ∙ rw (lt-ltb (get_or octets 0 0) 4 low, code) refl),
-     (bits, take (length octets - 2) (drop 2 octets), omega arith, parts ∙ rw (upper, lower) refl, found))
+    let found : read_parts octets service ≡ inner bits (take (length octets - 2) (drop 2 octets)) = rw (service_is, short) refl in (
+      ap (λ (i : Inner). Ok i) found ∙ sym (ap inner_of parts ∙ rw (lt-ltb (get_or octets 0 0) 4 low, code) refl),
+      (bits, take (length octets - 2) (drop 2 octets), omega arith, parts ∙ rw (upper, lower) refl, found),
+    )

@@ -1,4 +1,4 @@
-ghost use Rattle.std.specs.Prelude.{◌≡◌, ◌≢◌, ◌/◌, ◌%◌, ◌==◌, List, ℕ, [], Some, None, OnOk, OnErr, IsOk, IfErr, MatchResult};
+ghost use Rattle.std.specs.Prelude.{◌≡◌, ◌≢◌, ◌+◌, ◌/◌, ◌%◌, ◌==◌, List, ℕ, [], length, Some, None, OnOk, OnErr, IsOk, IfErr, MatchResult};
 ghost use Rattle.knx_ccm.specs.Sealing.{opened, said_code, computed_code, Opens, AreCodes};
 ghost use Rattle.secure_apdu.specs.Secure.{bad_secure, HasParts};
 ghost use Rattle.secure_apdu.specs.Opening.{head_of};
@@ -34,6 +34,7 @@ pub fn open_frame(
         (λ codes. (opened key.now (head_of (telegram frame.now) number secure.now.field) secure.now.body.now ≡ None)
         × (codes.said ≡ said_code key.now (head_of (telegram frame.now) number secure.now.field) secure.now.body.now)
         × (codes.computed ≡ computed_code key.now (head_of (telegram frame.now) number secure.now.field) secure.now.body.now)) }
+    ensures length { OnOk result (length out.new + 13 ≡ length frame.now.content.now) }
     ensures empty { OnErr result (out.new ≡ []) }
 {
     let head = Head {

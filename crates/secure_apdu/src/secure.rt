@@ -56,7 +56,7 @@ fn has_secure_service(content: &[u8]) -> bool
     }
 }
 
-/// The parts of a secure frame, or what is wrong with it first.
+/// The parts of a secure frame, or what is wrong with it first, by the faults of docs/RULES.md. The body has at most 246 octets.
 pub fn read_secure<'a>(frame: &Frame<'a>) -> Result<Secure<'a>, BadSecure>
     requires secure { IsTrue (is_secure frame.now.content.now) }
     ensures exact { MatchResult result

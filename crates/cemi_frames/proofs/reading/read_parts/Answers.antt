@@ -1,4 +1,3 @@
-use Rattle.std.proofs.Common.{◌≡◌}
 use Rattle.std.proofs.lemmas.Result.{err_from_is_err_and}
 use Rattle.cemi_frames.proofs.FirstFault.{frame_fault-head, reads_raw, reads_data}
 use Rattle.cemi_frames.proofs.reading.read_parts.Goals as goal

@@ -1,6 +1,6 @@
-use Rattle.std.proofs.Common.{◌≡◌, ◌-◌, ◌++◌, ◌∷◌, [], take, drop, refl, ap, sym, ◌∙◌, arith}
+use Rattle.std.proofs.Common.{◌≡◌, ◌-◌, ◌++◌, ◌∷◌, [], take, drop, refl, ap, ◌∙◌, arith}
 use Rattle.knx_base.proofs.Places.{later_rest}
-use Rattle.cemi_frames.specs.Fields.{check_octet, checked, message, info_octets}
+use Rattle.cemi_frames.specs.Fields.{check_octet, checked, message}
 use Rattle.cemi_frames.proofs.Written.{front_and_rest, message-octets, behind_two}
 use Rattle.cemi_frames.proofs.writing.write_raw.Goals as goal
 

@@ -3,9 +3,10 @@ use Rattle.std.specs.Prelude.{option_map}
 use Rattle.cemi_frames.specs.declared.frame.NotFrame.{NotFrame}
 use Rattle.cemi_frames.specs.Frames.{Telegram}
 use Rattle.cemi_frames.specs.Reading.{frame_at}
-use Rattle.knx_ccm.specs.Sealing.{said_apdu}
-use Rattle.knxsec_app.specs.declared.verdict.Verdict.TheVariants as verdict
-use Rattle.knxsec_app.specs.Opening.{head_in, body_in, first_failing, telegram_checks, refusal_of, apdu_of}
+use Rattle.judge_rules.specs.declared.verdict.Verdict.TheVariants as verdict
+use Rattle.judge_rules.specs.Parts.{shown_in}
+use Rattle.judge_rules.specs.Checks.{apdu_in, first_failing}
+use Rattle.knxsec_app.specs.Opening.{telegram_checks, refusal_of, apdu_of}
 use Rattle.knxsec_app.proofs.opening.refuse.Goals as goal
 
 pub returns-in-Ok-clause-refusal : goal.returns-in-Ok-clause-refusal
@@ -22,7 +23,7 @@ pub returns-in-Ok-clause-opened : goal.returns-in-Ok-clause-opened
 unfolding apdu_of
 returns-in-Ok-clause-opened c = λ none.
     c.refuse_frame.ensures.opened none
-    ∙ ap (λ (t : Telegram). said_apdu c.args.key.now (head_in t) (body_in t)) c.in-Ok.ensures.exact.1
+    ∙ ap (λ (t : Telegram). apdu_in c.args.key.now (shown_in t) t) c.in-Ok.ensures.exact.1
 
 pub returns-in-Err-clause-refusal : goal.returns-in-Err-clause-refusal
 unfolding refusal_of

@@ -1,0 +1,5 @@
+pub mod Records
+pub mod Reader
+pub mod State
+pub mod Next
+pub mod Given

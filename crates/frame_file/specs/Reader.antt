@@ -1,0 +1,98 @@
+-- What a reader of records does, said by what is left: the list of the records that the lines ahead say.
+use Rattle.std.specs.Prelude.{◌≡◌, ℕ, ◌+◌, ◌≤◌, Bool, true, false, List, [], ◌∷◌, length, drop, IsSome, Result, Ok, Err}
+use Rattle.std.specs.Str.Lines.{lines}
+use Rattle.knx_base.specs.Faults.{Rose}
+use Rattle.knx_base.specs.Files.{Seen, last_place}
+use Rattle.knx_base.specs.Reading.{WhereTold, GoesOn, ahead}
+use Rattle.frame_file.specs.Records.{RecordList, no_records, refused_by, with_record, most_records, records_from}
+use Rattle.frame_file.specs.declared.fault.RecordFault.{RecordFault}
+use Rattle.frame_file.specs.declared.fault.RecordFault.TheVariants.{ReadFault}
+use Rattle.frame_file.specs.declared.reader.Step.{Step}
+use Rattle.frame_file.specs.declared.reader.Step.TheVariants.{Given, Skipped, End}
+
+-- how many lines were read and records given, the octets that were read and not yet taken, and those of the last record
+pub record ReaderState : Type 0 where
+  pub lines : ℕ
+  pub given : ℕ
+  pub held : List ℕ
+  pub octets : List ℕ
+
+-- The file is current and was read by this reader alone: no line is shorter than an octet, so the lines are no more than the octets that were taken.
+pub record IsAt (seen : Seen) (state : ReaderState) : Type 0 where
+  pub current : IsSome seen.current
+  pub counted : state.lines + length state.held ≤ seen.place
+  pub last : seen.place ≤ last_place
+
+-- of a file with these octets, the records that are still to be given
+abbrev pub left : Seen → ReaderState → List ℕ → RecordList
+left seen state octets = records_from state.lines state.given (lines (ahead seen state.held octets))
+
+-- one more record was given, the first of those that were left
+pub record GivesRecord (seen later : Seen) (old new : ReaderState) : Type 0 where
+  pub goes : GoesOn seen later old.held new.held 1
+  pub at : IsAt later new
+  pub counted : new.given ≡ old.given + 1
+  pub few : new.given ≤ most_records
+  pub left_is : WhereTold seen (λ octets. left seen old octets ≡ with_record new.octets (left later new octets))
+
+-- no record was given, and the same ones are left
+pub record SkipsLine (seen later : Seen) (old new : ReaderState) : Type 0 where
+  pub goes : GoesOn seen later old.held new.held 1
+  pub at : IsAt later new
+  pub counted : new.given ≡ old.given
+  pub left_is : WhereTold seen (λ octets. left seen old octets ≡ left later new octets)
+
+-- no record is left, and the file was read to its end
+pub record FindsEnd (seen later : Seen) (old new : ReaderState) : Type 0 where
+  pub goes : GoesOn seen later old.held new.held 0
+  pub at : IsAt later new
+  pub counted : new.given ≡ old.given
+  pub none_left : WhereTold seen (λ octets. (left seen old octets ≡ no_records) × (left later new octets ≡ no_records))
+  pub whole : WhereTold seen (λ octets. drop later.place octets ≡ [])
+
+-- The list is refused by this fault before any record that is left; or the files failed.
+abbrev pub Refuses : Seen → Seen → ReaderState → RecordFault → Type 0
+Refuses seen later state ReadFault = Rose seen.faults later.faults
+Refuses seen later state fault = WhereTold seen (λ octets. left seen state octets ≡ refused_by fault)
+
+-- the answer to: is there one more record?
+abbrev pub Advances : Seen → Seen → ReaderState → ReaderState → Result Bool RecordFault → Type 0
+Advances seen later old new (Ok true) = GivesRecord seen later old new
+Advances seen later old new (Ok false) = FindsEnd seen later old new
+Advances seen later old new (Err fault) = Refuses seen later old fault
+
+-- ---- one line
+
+-- a fault of the text alone
+abbrev pub IsOfText : RecordFault → Type 0
+IsOfText ReadFault = ⊥
+IsOfText fault = Unit {0}
+
+-- a line said one more record, whatever lines follow it
+pub record SaysRecord (old new : ReaderState) (line : List ℕ) : Type 0 where
+  pub counted : new.given ≡ old.given + 1
+  pub few : new.given ≤ most_records
+  pub list : (rest : List (List ℕ)) → records_from old.lines old.given (line ∷ rest) ≡ with_record new.octets (records_from new.lines new.given rest)
+
+-- a line said nothing
+pub record SaysNothing (old new : ReaderState) (line : List ℕ) : Type 0 where
+  pub counted : new.given ≡ old.given
+  pub list : (rest : List (List ℕ)) → records_from old.lines old.given (line ∷ rest) ≡ records_from new.lines new.given rest
+
+-- a line was refused
+pub record SaysFault (old : ReaderState) (line : List ℕ) (fault : RecordFault) : Type 0 where
+  pub text : IsOfText fault
+  pub list : (rest : List (List ℕ)) → records_from old.lines old.given (line ∷ rest) ≡ refused_by fault
+
+abbrev pub TakesLine : ReaderState → ReaderState → List ℕ → Result Bool RecordFault → Type 0
+TakesLine old new line (Ok true) = SaysRecord old new line
+TakesLine old new line (Ok false) = SaysNothing old new line
+TakesLine old new line (Err fault) = SaysFault old line fault
+
+-- ---- one step: a record, a line without one, or the end
+
+abbrev pub Steps : Seen → Seen → ReaderState → ReaderState → Result Step RecordFault → Type 0
+Steps seen later old new (Ok Given) = GivesRecord seen later old new
+Steps seen later old new (Ok Skipped) = SkipsLine seen later old new
+Steps seen later old new (Ok End) = FindsEnd seen later old new
+Steps seen later old new (Err fault) = Refuses seen later old fault

@@ -1,0 +1,82 @@
+-- Which records a list of frames has. Each line that is not skipped is one word, the octets of a record in hexadecimal.
+use Rattle.std.specs.Prelude.{ℕ, ◌+◌, nat_lt, Bool, true, false, if◌then◌else◌, List, [], ◌∷◌, Option, Some, None, Result, Ok, Err}
+use Rattle.std.specs.Str.Lines.{lines}
+use Rattle.hex.specs.Hex.{decode_of}
+use Rattle.hex.specs.declared.error.FromHexError.{FromHexError}
+use Rattle.knx_base.specs.Lines.{line_of}
+use Rattle.knx_base.specs.declared.cause.Cause.{Cause}
+use Rattle.knx_base.specs.declared.cause.Cause.TheVariants as cause
+use Rattle.frame_file.specs.declared.fault.RecordFault.{RecordFault}
+use Rattle.frame_file.specs.declared.fault.RecordFault.TheVariants.{Line, LongLine, TooMany}
+
+-- the most records that a list may have
+abbrev pub most_records : ℕ
+most_records = 10000000
+
+-- ---- what one line says: nothing, the octets of a record, or the cause why it is refused
+
+abbrev pub record_of_digits : Result (List ℕ) FromHexError → Result (Option (List ℕ)) Cause
+record_of_digits (Ok octets) = Ok (Some octets)
+record_of_digits (Err fault) = Err cause.Digits
+
+abbrev pub record_of_words : List (List ℕ) → Result (Option (List ℕ)) Cause
+record_of_words [] = Err cause.Words
+record_of_words (word ∷ []) = record_of_digits (decode_of word)
+record_of_words (word ∷ next ∷ words) = Err cause.Words
+
+abbrev pub record_of_judged : Result (Option (List (List ℕ))) Cause → Result (Option (List ℕ)) Cause
+record_of_judged (Ok None) = Ok None
+record_of_judged (Ok (Some words)) = record_of_words words
+record_of_judged (Err fault) = Err fault
+
+abbrev pub record_of : List ℕ → Result (Option (List ℕ)) Cause
+record_of line = record_of_judged (line_of line)
+
+-- the answer that a line says a record, with the octets that were taken from it
+abbrev pub said_by : Result Bool Cause → List ℕ → Result (Option (List ℕ)) Cause
+said_by (Ok true) octets = Ok (Some octets)
+said_by (Ok false) octets = Ok None
+said_by (Err fault) octets = Err fault
+
+-- ---- the list
+
+-- the records up to the end, or up to the first refusal and that refusal
+pub record RecordList : Type 0 where
+  pub records : List (List ℕ)
+  pub refused : Option RecordFault
+
+abbrev pub no_records : RecordList
+no_records = record { records = []; refused = None }
+
+abbrev pub refused_by : RecordFault → RecordList
+refused_by fault = record { records = []; refused = Some fault }
+
+abbrev pub with_record : List ℕ → RecordList → RecordList
+with_record octets list = record { records = octets ∷ list.records; refused = list.refused }
+
+-- the refusal of the line of this number
+abbrev pub refusal_of : ℕ → Cause → RecordFault
+refusal_of number cause.Long = LongLine number
+refusal_of number fault = Line number fault
+
+-- how many records a line says
+abbrev pub records_in : Result (Option (List ℕ)) Cause → ℕ
+records_in (Ok None) = 0
+records_in (Ok (Some octets)) = 1
+records_in (Err fault) = 0
+
+-- the list from a line of this number on, where so many records stand before it
+abbrev pub from_line : ℕ → ℕ → Result (Option (List ℕ)) Cause → RecordList → RecordList
+from_line number before (Ok None) rest = rest
+from_line number before (Ok (Some octets)) rest = if nat_lt before most_records then with_record octets rest else refused_by (TooMany number)
+from_line number before (Err fault) rest = refused_by (refusal_of number fault)
+
+-- the list that these lines say, where so many lines and records stand before them
+abbrev pub records_from : ℕ → ℕ → List (List ℕ) → RecordList
+records_from lines_before before [] = no_records
+records_from lines_before before (line ∷ rest) =
+    from_line (lines_before + 1) before (record_of line) (records_from (lines_before + 1) (before + records_in (record_of line)) rest)
+
+-- the list of a file with these octets
+abbrev pub records_of : List ℕ → RecordList
+records_of octets = records_from 0 0 (lines octets)

@@ -1,0 +1,6 @@
+-- What a contract sees of a reader.
+use Rattle.frame_file.specs.Reader.{ReaderState}
+use Rattle.frame_file.specs.declared.reader.Reader.{Reader}
+
+abbrev pub state_of : Reader → ReaderState
+state_of reader = record { lines = reader.lines; given = reader.given; held = reader.source; octets = reader.octets }

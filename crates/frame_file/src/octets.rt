@@ -1,0 +1,68 @@
+ghost use Rattle.std.specs.Prelude.{◌≡◌, ℕ, ◌≤◌, List, [], length, take};
+ghost use Rattle.hex.specs.Hex.{decode_of};
+ghost use Rattle.frame_file.specs.Records.{record_of, record_of_digits, said_by};
+
+use knx_base::{Cause, judge_line};
+use std::marker::Model;
+
+/// The most octets that a line writes, two digits each.
+const ROOM: usize = 512;
+
+/// The octets of one record. A contract sees the octets alone.
+#[derive(Drop)]
+pub(crate) struct Octets {
+    store: [u8; ROOM],
+    len: usize,
+}
+
+impl Model for Octets {
+    ghost Value = { List ℕ };
+
+    ghost view = { λ o. take o.len o.store };
+
+    ghost invariant = { λ o. o.len ≤ 512 };
+}
+
+impl Octets {
+    pub(crate) fn new() -> Octets
+        ensures empty { result ≡ [] }
+    {
+        Octets {
+            store: [0; ROOM],
+            len: 0,
+        }
+    }
+
+    pub(crate) fn bytes(&self) -> &[u8]
+        ensures octets { result.now ≡ self.now }
+    {
+        &self.store[..self.len]
+    }
+
+    // Takes the octets that a word writes in hexadecimal.
+    fn decode(&mut self, word: &str) -> Result<bool, Cause>
+        requires short { length word.now ≤ 1024 }
+        ensures decoded { record_of_digits (decode_of word.now) ≡ said_by result self.new }
+    {
+        self.len = word.len() / 2;
+        match hex::decode_to_slice(word, &mut self.store[..self.len]) {
+            Ok(()) => Ok(true),
+            Err(_) => Err(Cause::Digits),
+        }
+    }
+
+    /// Takes the octets of the record that a line says. The answer is whether it says one.
+    pub(crate) fn take_line(&mut self, line: &[u8]) -> Result<bool, Cause>
+        ensures line { record_of line.now ≡ said_by result self.new }
+    {
+        let mut words = match judge_line(line) {
+            Ok(Some(words)) => words,
+            Ok(None) => return Ok(false),
+            Err(cause) => return Err(cause),
+        };
+        let (Some(word), None) = (words.next(), words.next()) else {
+            return Err(Cause::Words);
+        };
+        self.decode(word)
+    }
+}

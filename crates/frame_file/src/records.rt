@@ -1,0 +1,93 @@
+use crate::RecordFault;
+use crate::reader::Reader;
+use knx_base::{Files, NoMemory};
+use std::alloc::Global;
+use std::marker::Model;
+
+/// One record of a list.
+#[derive(Clone, Copy, Debug, PartialEq, Eq)]
+pub struct Record<'a> {
+    /// Its number, counted from 1.
+    pub number: u64,
+    /// When it was recorded, in milliseconds since 1970-01-01T00:00:00Z. A list of frames says no time.
+    pub time: Option<i64>,
+    pub octets: &'a [u8],
+}
+
+/// The records of the current file, a list of frames: each line is the octets of one in hexadecimal, and a line without
+/// words or whose first word begins with `#` is skipped. The file is read in pieces, and the value has room for one line.
+///
+/// A contract sees how far it is, and the fault that is answered from now on, if there is one.
+#[derive(Drop)]
+pub struct Records {
+    reader: Reader,
+    fault: Option<RecordFault>,
+}
+
+impl Model for Records {
+    ghost use Rattle.frame_file.specs.Next.{RecordsState};
+    ghost use Rattle.frame_file.specs.State.{state_of};
+
+    ghost Value = { RecordsState };
+
+    ghost view = { λ r. record { reader = state_of r.reader; fault = r.fault } };
+}
+
+impl Records {
+    ghost use Rattle.std.specs.Prelude.{◌≡◌, ◌≤◌, [], None, IfOk};
+    ghost use Rattle.std.specs.Borrow.{sem};
+    ghost use Rattle.frame_file.specs.Next.{IsReading, Goes};
+    ghost use Rattle.frame_file.specs.Given.{Gives, EndsSo};
+
+    /// Ready for a file that was opened and of which nothing was read.
+    pub fn new(_alloc: Global) -> Result<Records, NoMemory>
+        ensures start { IfOk result (λ records. records ≡ record { reader = record { lines = 0; given = 0; held = []; octets = [] }; fault = None }) }
+    {
+        Ok(Records {
+            reader: Reader::new(),
+            fault: None,
+        })
+    }
+
+    /// The next record, or `None` at the end of the file. After a fault that fault is answered again.
+    pub fn next<F: Files>(&mut self, files: &mut F) -> Result<Option<Record<'_>>, RecordFault>
+        requires reading { IsReading (F.seen files.old) self.old }
+        ensures* gives { sem 𝓛 (EndsSo self.entry (λ new. Gives (F.seen files.old) (F.seen files.new) self.old new result)) }
+        ensures later { (F.seen files.old).faults ≤ (F.seen files.new).faults }
+    {
+        if self.advance(files)? {
+            Ok(Some(self.record()))
+        } else {
+            Ok(None)
+        }
+    }
+
+    fn advance<F: Files>(&mut self, files: &mut F) -> Result<bool, RecordFault>
+        requires reading { IsReading (F.seen files.old) self.old }
+        ensures goes { Goes (F.seen files.old) (F.seen files.new) self.old self.new result }
+        ensures later { (F.seen files.old).faults ≤ (F.seen files.new).faults }
+    {
+        if let Some(fault) = self.fault {
+            return Err(fault);
+        }
+        match self.reader.advance(files) {
+            Ok(found) => Ok(found),
+            Err(fault) => {
+                self.fault = Some(fault);
+                Err(fault)
+            }
+        }
+    }
+
+    fn record(&self) -> Record<'_>
+        ensures number { result.number ≡ self.now.reader.given }
+        ensures octets { result.octets.now ≡ self.now.reader.octets }
+        ensures time { result.time ≡ None }
+    {
+        Record {
+            number: self.reader.given(),
+            time: None,
+            octets: self.reader.octets(),
+        }
+    }
+}

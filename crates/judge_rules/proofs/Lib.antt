@@ -1,0 +1,4 @@
+pub mod Names
+pub mod Failing
+pub mod Judging
+pub mod Channels

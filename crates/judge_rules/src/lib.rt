@@ -1,0 +1,18 @@
+//! The judgement of secured telegrams: the verdict on a frame, what a receiver keeps of it, and how it is told. No call takes
+//! memory.
+#![tactic(auto)]
+
+mod alarm;
+mod data;
+mod entry;
+mod judgement;
+#[cfg(test)]
+mod tests;
+mod text;
+mod verdict;
+
+pub use alarm::is_alarm;
+pub use entry::{lane_of, secure_parts};
+pub use judgement::judge;
+pub use text::write_verdict;
+pub use verdict::{BadService, Judgement, Verdict};

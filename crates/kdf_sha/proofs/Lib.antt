@@ -1,0 +1,2 @@
+mod XorLemmas
+mod Pbkdf2Lemmas

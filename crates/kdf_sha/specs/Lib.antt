@@ -1,0 +1,4 @@
+pub mod Xor
+pub mod Hmac
+pub mod Pbkdf2
+pub mod Keyed

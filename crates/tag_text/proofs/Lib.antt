@@ -1,0 +1,9 @@
+mod OctetLemmas
+mod AttributeLemmas
+mod ValueLemmas
+mod PieceLemmas
+mod OpenLemmas
+mod DocumentLemmas
+mod ScanLemmas
+mod GrammarLemmas
+mod LawLemmas

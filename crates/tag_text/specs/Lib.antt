@@ -1,0 +1,9 @@
+pub mod Octets
+pub mod Values
+pub mod Pieces
+pub mod PieceView
+pub mod Document
+pub mod Scan
+pub mod Attributes
+pub mod Reader
+pub mod Grammar
