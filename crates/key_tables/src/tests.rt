@@ -100,11 +100,8 @@ const fn lamp_key(key: [u8; 16]) -> Row {
     }
 }
 
-const fn tool_key(key: [u8; 16]) -> Row {
-    Row::Tool {
-        device: DEVICE,
-        key,
-    }
+const fn tool_key(device: IndAddr, key: [u8; 16]) -> Row {
+    Row::Tool { device, key }
 }
 
 const fn role_on(channel: Channel, sender: Option<IndAddr>, role: Role) -> Row {
@@ -123,7 +120,7 @@ fn the_rows_over_displace_those_under(rt: HostRuntime) -> Result<(), Fail> {
         role_on(BLIND, Some(SENDER), Role::Manage),
         lamp_key(OTHER_KEY),
         role_on(LAMP, Some(DEVICE), Role::Manage),
-        tool_key(OTHER_KEY),
+        tool_key(DEVICE, OTHER_KEY),
     ];
     let tables = Tables::merge(rt.alloc(), &over, &under)?;
     assert_eq!(rt; tables.key(LAMP), Some(KEY));
@@ -139,9 +136,9 @@ fn the_place_of_a_fault_counts_the_merged_rows(rt: HostRuntime) {
     let over = [lamp_key(KEY)];
     let under = [
         lamp_key(KEY),
-        tool_key(KEY),
+        tool_key(DEVICE, KEY),
         role_on(LAMP, None, Role::Observe),
-        tool_key(OTHER_KEY),
+        tool_key(DEVICE, OTHER_KEY),
     ];
     assert_eq!(rt;
         fault_of(Tables::merge(rt.alloc(), &over, &under)),
@@ -156,13 +153,11 @@ fn the_place_of_a_fault_counts_the_merged_rows(rt: HostRuntime) {
 #[test]
 fn there_are_as_many_keys_as_may_be_and_no_more(rt: HostRuntime) -> Result<(), Fail> {
     let mut rows = Vec::new(rt.alloc());
-    for device in 0..4097u16 {
-        rows.push(Row::Tool {
-            device: IndAddr(device),
-            key: KEY,
-        })?;
+    for device in 0..4096 {
+        rows.push(tool_key(IndAddr(device), KEY))?;
     }
-    assert_eq!(rt; fault_of(Tables::build(rt.alloc(), &rows[..4096])), None);
+    assert_eq!(rt; fault_of(Tables::build(rt.alloc(), &rows)), None);
+    rows.push(tool_key(IndAddr(4096), KEY))?;
     assert_eq!(rt;
         fault_of(Tables::build(rt.alloc(), &rows)),
         Some(BuildFault::TooMany(4096))
