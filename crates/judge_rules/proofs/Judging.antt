@@ -1,9 +1,8 @@
 -- From an opened APDU to the verdict, and to what is kept.
-use Rattle.std.proofs.Common.{◌≡◌, ℕ, Bool, true, false, List, [], ◌∷◌, ◌++◌, Option, Some, None, refl, sym, ap, ◌∙◌}
+use Rattle.std.proofs.Common.{◌≡◌, ℕ, List, [], ◌∷◌, ◌++◌, Option, Some, None, refl, sym, ap, ◌∙◌}
 use Rattle.std.specs.Prelude.{unwrap_or, if◌then◌else◌}
 use Rattle.std.specs.Option.{is_some}
-use Rattle.std.proofs.lemmas.Option.{none-some, cond_some}
-use Rattle.knx_ccm.specs.declared.head.Head.{Head}
+use Rattle.std.proofs.lemmas.Option.{cond_some}
 use Rattle.knx_ccm.specs.Sealing.{opened}
 use Rattle.cemi_frames.specs.Frames.{Telegram}
 use Rattle.secure_apdu.specs.Secure.{HasParts}

@@ -1,5 +1,5 @@
 -- How long the names of services are.
-use Rattle.std.proofs.Common.{◌≤◌, length, arith, lit≤}
+use Rattle.std.proofs.Common.{◌≤◌, length, lit≤}
 use Rattle.plain_apdu.specs.declared.service.Service.{Service}
 use Rattle.plain_apdu.specs.declared.service.Service.TheVariants.{GroupValueRead, GroupValueResponse, GroupValueWrite, MemoryRead, MemoryResponse, MemoryWrite, DeviceDescriptorRead, DeviceDescriptorResponse, Restart, RestartOther, PropertyValueRead, PropertyValueResponse, PropertyValueWrite, Secure, Unknown}
 use Rattle.plain_apdu.specs.Service.{name_of}

@@ -1,5 +1,5 @@
 -- The parts of a secure telegram that its judgement reads.
-use Rattle.std.specs.Prelude.{ℕ, ◌+◌, ◌/◌, ◌%◌, ◌==◌, List, slice_index, drop, nat_lt, if◌then◌else◌, Bool, Option, Some, None}
+use Rattle.std.specs.Prelude.{ℕ, ◌/◌, ◌%◌, ◌==◌, List, slice_index, drop, if◌then◌else◌, Bool, Option, Some, None}
 use Rattle.knx_base.specs.declared.address.IndAddr.{IndAddr}
 use Rattle.knx_base.specs.Number.{number_at, number_of, octets_of}
 use Rattle.cemi_frames.specs.Frames.{Telegram}

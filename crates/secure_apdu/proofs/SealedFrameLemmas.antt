@@ -1,5 +1,5 @@
 -- The frame that a sealed APDU is sent in, over plain lists.
-use Rattle.std.proofs.Common.{◌≡◌, ℕ, ◌+◌, List, [], ◌∷◌, ◌++◌, length, take, drop, refl, sym, ap, ◌∙◌, length-append, arith}
+use Rattle.std.proofs.Common.{◌≡◌, ℕ, ◌+◌, List, [], ◌++◌, length, take, sym, ap, ◌∙◌, arith}
 use Rattle.std.proofs.lemmas.List.{take_at}
 use Rattle.cemi_frames.specs.Fields.{Fields, long_octets, info_octets, message}
 use Rattle.secure_apdu.specs.declared.sealing.SendHead.{SendHead}

@@ -1,10 +1,7 @@
 -- What is wrong with a secure frame first.
-use Rattle.std.proofs.Common.{◌≡◌, ℕ, zero, suc, ◌+◌, ◌-◌, ◌/◌, ◌%◌, ◌<◌, ◌≤◌, Bool, true, false, cond, List, [], ◌∷◌, ◌++◌, length, take, drop, length-drop, Option, Some, None, refl, sym, ap, ◌∙◌, subst, arith}
+use Rattle.std.proofs.Common.{◌≡◌, ℕ, zero, suc, ◌-◌, ◌<◌, ◌≤◌, Bool, true, false, cond, List, [], ◌∷◌, length, drop, length-drop, Option, Some, None, refl, sym, ap, ◌∙◌, subst, arith}
 use Rattle.std.specs.Prelude.{slice_index, find, option_map, nat_lt, ◌==◌, ◌&&◌, ◌||◌, if◌then◌else◌, ◌↔◌, IsTrue}
 use Rattle.std.proofs.lemmas.Bool.{lt-ltb, le-ltb, ltb-false, eq-eqb, eqb-true, false≢true, ne_eqb}
-use Rattle.std.proofs.lemmas.List.{length-take-le, get_or_at}
-use Rattle.knx_base.specs.Number.{octets_of}
-use Rattle.knx_base.proofs.NumberLemmas.{length-octets_of}
 use Rattle.secure_apdu.specs.declared.secure.BadSecure.{BadSecure}
 use Rattle.secure_apdu.specs.declared.secure.BadSecure.TheVariants as bad
 use Rattle.secure_apdu.specs.Secure.{Test, test, algorithm_of, service_of, is_broadcast, is_unknown, is_sync, is_misfit, field_tests, first_fault, bad_secure, HasParts}

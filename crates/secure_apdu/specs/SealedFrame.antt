@@ -1,5 +1,5 @@
 -- The frame that a sealed APDU is sent in.
-use Rattle.std.specs.Prelude.{ℕ, List, [], ◌∷◌, ◌++◌, length, Bool}
+use Rattle.std.specs.Prelude.{ℕ, List, [], ◌∷◌, ◌++◌, length}
 use Rattle.knx_base.specs.Number.{octets_of}
 use Rattle.cemi_frames.specs.Fields.{Fields, long_octets, message}
 use Rattle.cemi_frames.specs.Writing.{written_control, written_control2}

@@ -4,7 +4,7 @@ use Rattle.std.specs.Prelude.{if◌then◌else◌, ◌%◌, ◌==◌, Bool, ℕ}
 use Rattle.cemi_frames.specs.Frames.{telegram}
 use Rattle.knx_base.specs.Number.{number_at}
 use Rattle.judge_rules.specs.Parts.{sync_service, service_in}
-use Rattle.judge_rules.specs.Checks.{data_checks, first_failing, verdict_or, good_verdict}
+use Rattle.judge_rules.specs.Checks.{data_checks, first_failing, verdict_or}
 use Rattle.judge_rules.specs.declared.verdict.Verdict.TheVariants as verdict
 use Rattle.judge_rules.proofs.judgement.last_verdict.Goals as goal
 

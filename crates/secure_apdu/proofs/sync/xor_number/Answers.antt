@@ -1,5 +1,5 @@
 use Rattle.std.proofs.Common.{◌≡◌, length, sym, ap, ◌∙◌, rules}
-use Rattle.knx_base.specs.Number.{number_of, octets_of}
+use Rattle.knx_base.specs.Number.{number_of}
 use Rattle.knx_base.proofs.NumberLemmas.{length-octets_of}
 use Rattle.secure_apdu.specs.Sync.{xor_octets}
 use Rattle.secure_apdu.proofs.SyncLemmas.{xor_octets-six, xor_octets-twice}
