@@ -1,4 +1,4 @@
-ghost use Rattle.std.specs.Prelude.{◌≡◌, ◌≢◌, ◌⊎◌, ◌++◌, ◌∷◌, [], ℕ, List, Option, Some, None, MatchResult};
+ghost use Rattle.std.specs.Prelude.{◌≡◌, ◌≢◌, ◌≤◌, ◌⊎◌, ◌++◌, ◌∷◌, [], ℕ, List, Option, Some, None, MatchResult};
 ghost use Rattle.hex.specs.Hex.{encode_lower};
 ghost use Rattle.knx_base.specs.Faults.{Rose, HasCause};
 ghost use Rattle.knx_base.specs.Files.{File};
@@ -22,6 +22,7 @@ pub(crate) fn obey<S: Sink>(command: &Command, out: &mut S) -> Status
     ensures answer { (files : List File) → Answers (answer_to (Some (asked_of command.now)) files) result
         (S.octets out.old) (S.octets out.new) }
     ensures status { IsOfAnswer result ⊎ ((result ≡ Status.WriteFault) × Rose (S.faults out.old) (S.faults out.new)) }
+    ensures later { S.faults out.old ≤ S.faults out.new }
     ensures not_usage { result ≢ Status.Usage }
 {
     match command {
@@ -33,6 +34,7 @@ pub(crate) fn obey<S: Sink>(command: &Command, out: &mut S) -> Status
 pub(crate) fn print_usage<S: Sink>(out: &mut S) -> Status
     ensures answer { (files : List File) → Answers (answer_to None files) result (S.octets out.old) (S.octets out.new) }
     ensures status { IsOfAnswer result ⊎ ((result ≡ Status.WriteFault) × Rose (S.faults out.old) (S.faults out.new)) }
+    ensures later { S.faults out.old ≤ S.faults out.new }
 {
     ended(print_text(USAGE_LINE.as_bytes(), out), Status::Usage)
 }
@@ -45,6 +47,7 @@ fn open<S: Sink>(key: &[u8; 16], frame: &FrameWord, out: &mut S) -> Status
     ensures answer { Answers (opening_answer (refusal_of key.now frame.now) (apdu_of key.now frame.now)) result
         (S.octets out.old) (S.octets out.new) }
     ensures status { IsOfAnswer result ⊎ ((result ≡ Status.WriteFault) × Rose (S.faults out.old) (S.faults out.new)) }
+    ensures later { S.faults out.old ≤ S.faults out.new }
     ensures not_usage { result ≢ Status.Usage }
 {
     let mut apdu = ApduBuf::new();

@@ -1,4 +1,4 @@
-ghost use Rattle.std.specs.Prelude.{◌≡◌, ◌≢◌, ℕ, List, map, Option, None};
+ghost use Rattle.std.specs.Prelude.{◌≡◌, ◌≢◌, ◌≤◌, ℕ, List, map, Option, None};
 ghost use Rattle.std.specs.Option.{ForSome};
 ghost use Rattle.std.specs.String.{string_bytes};
 ghost use Rattle.knx_base.specs.Faults.{Rose};
@@ -32,6 +32,10 @@ pub fn run<F: Files, S: Sink>(
     // A fault is answered only where its cause was counted in this call.
     ensures read_fault { result ≡ Status.ReadFault → Rose (F.seen files.old).faults (F.seen files.new).faults }
     ensures write_fault { result ≡ Status.WriteFault → Rose (S.faults out.old) (S.faults out.new) }
+
+    // Neither count of faults falls.
+    ensures later { S.faults out.old ≤ S.faults out.new }
+    ensures files_later { (F.seen files.old).faults ≤ (F.seen files.new).faults }
 
     // A command that names no file takes no memory and leaves the files alone.
     ensures no_memory { NamesNoFile (command_of (map string_bytes words.now)) → result ≢ Status.NoMemory }

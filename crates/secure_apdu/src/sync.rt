@@ -19,6 +19,7 @@ pub fn xor_number(challenge: [u8; 6], number: Number48) -> Number48
 pub fn sync_values(payload: &[u8; 12]) -> (Number48, Number48)
     ensures number { result.0 ≡ number_at payload.now 0 }
     ensures kept { result.1 ≡ number_at payload.now 6 }
+    ensures back { octets_of result.0 ++ octets_of result.1 ≡ payload.now }
 {
     let [n0, n1, n2, n3, n4, n5, k0, k1, k2, k3, k4, k5] = *payload;
     (
