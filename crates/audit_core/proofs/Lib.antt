@@ -1,0 +1,4 @@
+pub mod Keeping
+pub mod Knowing
+pub mod LaneOf
+pub mod Lanes

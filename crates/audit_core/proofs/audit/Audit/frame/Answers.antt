@@ -1,0 +1,5 @@
+use Rattle.audit_core.proofs.Knowing.{knows_after}
+use Rattle.audit_core.proofs.audit.Audit.frame.Goals as goal
+
+pub returns-clause-line : goal.returns-clause-line
+returns-clause-line c past knows = knows_after c.args.self.now c.step.new.self past c.args.octets.now c.step.result knows c.step.ensures.steps

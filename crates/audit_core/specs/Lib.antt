@@ -1,0 +1,4 @@
+pub mod Audit
+pub mod Marks
+pub mod State
+pub mod Text

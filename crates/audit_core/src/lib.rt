@@ -1,0 +1,14 @@
+//! The audit of a recording: frames are judged one after the other under the rows of an installation, each with the marks that
+//! those before it left, and each gives a line of the report.
+#![tactic(auto)]
+
+mod audit;
+mod judging;
+mod line;
+mod marks;
+mod print;
+mod tally;
+
+pub use audit::Audit;
+pub use line::{Addresses, Line};
+pub use print::print_line;
