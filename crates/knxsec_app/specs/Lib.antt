@@ -1,5 +1,10 @@
+pub mod Answer
+pub mod Asked
+pub mod Auditing
+pub mod Commands
+pub mod Ends
+pub mod Opening
+pub mod Page
+pub mod Refusing
 pub mod Status
 pub mod Words
-pub mod Asked
-pub mod Answer
-pub mod Opening

@@ -7,6 +7,8 @@ use Rattle.hex.specs.Hex.{decode_of}
 pub data Asked : Type 0 where
   -- open this frame under this key
   Open : (key frame : List ℕ) → Asked
+  -- judge the records of one file under the tables of another
+  Audit : (tables frames : List ℕ) → Asked
 
 -- the octets that a word writes in hexadecimal, where they are so many
 abbrev pub octets_between : ℕ → ℕ → List ℕ → Option (List ℕ)
@@ -21,6 +23,8 @@ opening None frame = None
 
 -- what the words ask for; None where they are of no form
 abbrev pub command_of : List (List ℕ) → Option Asked
-command_of (verb ∷ key ∷ frame ∷ []) =
-    if pointwise nat_eq verb (codes "open") then opening (octets_between 16 16 key) (octets_between 1 1024 frame) else None
+command_of (verb ∷ first ∷ second ∷ []) =
+    if pointwise nat_eq verb (codes "open") then opening (octets_between 16 16 first) (octets_between 1 1024 second)
+    else if pointwise nat_eq verb (codes "audit") then Some (Audit first second)
+    else None
 command_of _ = None

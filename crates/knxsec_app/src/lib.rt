@@ -1,9 +1,14 @@
 //! The program as one call: `run` takes the words of a command line, the files and the sink, and answers a status.
 #![tactic(auto)]
 
+mod auditing;
+mod ending;
 mod frame_word;
 mod obey;
 mod opening;
+mod page;
+mod refusing;
+mod report;
 mod status;
 #[cfg(test)]
 mod tests;

@@ -4,7 +4,8 @@ ghost use Rattle.std.specs.String.{string_bytes};
 ghost use Rattle.knx_base.specs.Faults.{Rose};
 ghost use Rattle.knx_base.specs.Files.{File};
 ghost use Rattle.knxsec_app.specs.Words.{command_of};
-ghost use Rattle.knxsec_app.specs.Answer.{answer_of, Answers, AreFiles, NamesNoFile};
+ghost use Rattle.knxsec_app.specs.Answer.{Answers};
+ghost use Rattle.knxsec_app.specs.Commands.{answer_of, AreFiles, AreRead, AreThere, AreUnopened, IsWhole, NamesNoFile};
 
 use crate::Status;
 use crate::obey::{obey, print_usage};
@@ -15,16 +16,29 @@ use std::alloc::Global;
 /// Does what the words of a command line ask for: reads the files that they name, writes the report to `out`, and
 /// answers how it ended.
 ///
-/// `open KEYHEX FRAMEHEX` opens one frame; its words write 16 octets, and 1 to 1,024, in hexadecimal.
+/// - `open KEYHEX FRAMEHEX` opens one frame; its words write 16 octets, and 1 to 1,024, in hexadecimal.
+/// - `audit TABLES FRAMES` judges the records of the file FRAMES under the tables of the file TABLES. The files are opened in
+///   this order, each read to its end before the next.
+///
 /// All other words are answered by the usage line.
 pub fn run<F: Files, S: Sink>(
-    _alloc: Global,
+    alloc: Global,
     words: &[String],
     files: &mut F,
     out: &mut S,
 ) -> Status
+    // Where the files tell their names, each that the words name is one of them.
+    requires there { ForSome (F.seen files.old).told (λ told. AreThere (command_of (map string_bytes words.now)) told) }
     ensures answer { (told : List File) → AreFiles (command_of (map string_bytes words.now)) (F.seen files.old) told
         → Answers (answer_of (map string_bytes words.now) told) result (S.octets out.old) (S.octets out.new) }
+
+    // With Done and Alarm each file that the words name was read to its end.
+    ensures whole { IsWhole result → (told : List File) → AreFiles (command_of (map string_bytes words.now)) (F.seen files.old) told
+        → AreRead (command_of (map string_bytes words.now)) told (F.seen files.new) }
+
+    // After a refusal no further file is opened.
+    ensures unopened { result ≡ Status.Refused → (told : List File) → AreFiles (command_of (map string_bytes words.now)) (F.seen files.old) told
+        → AreUnopened (command_of (map string_bytes words.now)) told (F.seen files.old) (F.seen files.new) }
 
     // Words of no form alone are answered by the usage line.
     ensures usage { result ≡ Status.Usage → command_of (map string_bytes words.now) ≡ None }
@@ -43,7 +57,7 @@ pub fn run<F: Files, S: Sink>(
     ensures unread { NamesNoFile (command_of (map string_bytes words.now)) → files.new ≡ files.old }
 {
     match read_words(words) {
-        Some(command) => obey(&command, out),
+        Some(command) => obey(alloc, &command, files, out),
         None => print_usage(out),
     }
 }

@@ -1,7 +1,7 @@
 ghost use Rattle.std.specs.Prelude.{◌≡◌, map};
 ghost use Rattle.std.specs.Option.{option_map};
 ghost use Rattle.std.specs.String.{string_bytes};
-ghost use Rattle.knxsec_app.specs.Words.{command_of, octets_between};
+ghost use Rattle.knxsec_app.specs.Words.{command_of, opening, octets_between};
 ghost use Rattle.knxsec_app.specs.Asked.{asked_of};
 
 use crate::frame_word::FrameWord;
@@ -9,8 +9,11 @@ use hex::FromHex;
 
 /// What the words ask for.
 #[derive(Drop)]
-pub(crate) enum Command {
+pub(crate) enum Command<'a> {
+    /// To open this frame under this key.
     Open { key: [u8; 16], frame: FrameWord },
+    /// To judge the records of one file under the tables of another.
+    Audit { tables: &'a str, frames: &'a str },
 }
 
 fn read_key(word: &str) -> Option<[u8; 16]>
@@ -23,15 +26,27 @@ fn read_key(word: &str) -> Option<[u8; 16]>
 }
 
 /// What the words ask for, or None where they are of no form.
-pub(crate) fn read_words(words: &[String]) -> Option<Command>
+pub(crate) fn read_words(words: &[String]) -> Option<Command<'_>>
     ensures asked { option_map asked_of result ≡ command_of (map string_bytes words.now) }
 {
-    let [verb, key, frame] = words else {
+    let [verb, first, second] = words else {
         return None;
     };
-    if verb.as_str() != "open" {
+    if verb.as_str() == "open" {
+        return read_opening(first, second);
+    }
+    if verb.as_str() != "audit" {
         return None;
     }
+    Some(Command::Audit {
+        tables: first,
+        frames: second,
+    })
+}
+
+fn read_opening<'a>(key: &str, frame: &str) -> Option<Command<'a>>
+    ensures asked { option_map asked_of result ≡ opening (octets_between 16 16 key.now) (octets_between 1 1024 frame.now) }
+{
     let Some(key) = read_key(key) else {
         return None;
     };

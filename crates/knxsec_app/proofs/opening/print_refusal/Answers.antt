@@ -1,7 +1,7 @@
 use Rattle.std.proofs.Common.{[], ◌∷◌}
 use Rattle.knx_base.proofs.Printing.{prints_then, prints_no_more}
 use Rattle.judge_rules.specs.Text.{verdict_text}
-use Rattle.knxsec_app.proofs.obey.print_refusal.Goals as goal
+use Rattle.knxsec_app.proofs.opening.print_refusal.Goals as goal
 
 pub returns-clause-text : goal.returns-clause-text
 returns-clause-text g c =

@@ -1,0 +1,4 @@
+pub mod Answering
+pub mod Refused
+pub mod SoFar
+pub mod Told

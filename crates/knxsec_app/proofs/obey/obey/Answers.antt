@@ -1,0 +1,20 @@
+use Rattle.std.proofs.Common.{◌≡◌, Some, sym, subst}
+use Rattle.knxsec_app.specs.Answer.{Answers}
+use Rattle.knxsec_app.specs.Asked.{asked_of}
+use Rattle.knxsec_app.specs.Commands.{answer_to, AreFiles, AreThere, AreUnopened}
+use Rattle.knxsec_app.proofs.obey.obey.Goals as goal
+
+pub audit-requires : goal.audit-requires
+audit-requires g c = record {
+  there = λ told is. subst (λ command. AreThere (Some (asked_of command)) told) c.in-Audit.is (c.requires.there told is);
+}
+
+pub returns-in-Audit-clause-answer : goal.returns-in-Audit-clause-answer
+returns-in-Audit-clause-answer g c told are =
+    subst (λ command. Answers (answer_to (Some (asked_of command)) told) c.audit.result (g.S.Sink.octets c.args.out.now) (g.S.Sink.octets c.audit.new.out)) (sym c.in-Audit.is)
+    (c.audit.ensures.answer told (subst (λ command. AreFiles (Some (asked_of command)) (g.F.Files.seen c.args.files.now) told) c.in-Audit.is are))
+
+pub returns-in-Audit-clause-unopened : goal.returns-in-Audit-clause-unopened
+returns-in-Audit-clause-unopened g c refused told are =
+    subst (λ command. AreUnopened (Some (asked_of command)) told (g.F.Files.seen c.args.files.now) (g.F.Files.seen c.audit.new.files)) (sym c.in-Audit.is)
+    (c.audit.ensures.unopened refused told (subst (λ command. AreFiles (Some (asked_of command)) (g.F.Files.seen c.args.files.now) told) c.in-Audit.is are))

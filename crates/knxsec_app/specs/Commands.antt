@@ -1,0 +1,78 @@
+-- The answer of a whole command, as a function of its words and files.
+use Rattle.std.specs.Prelude.{◌≡◌, ◌≢◌, ℕ, ◌⊎◌, List, [], ◌∷◌, ◌++◌, length, codes, Option, Some, None, unwrap_or}
+use Rattle.knx_base.specs.Files.{File, Seen, IsThere, octets_named}
+use Rattle.hex.specs.Hex.{encode_lower}
+use Rattle.judge_rules.specs.declared.verdict.Verdict.{Verdict}
+use Rattle.judge_rules.specs.Text.{verdict_text}
+use Rattle.knxsec_app.specs.declared.status.Status.{Status}
+use Rattle.knxsec_app.specs.declared.status.Status.TheVariants.{Done, Alarm, Usage, Refused}
+use Rattle.knxsec_app.specs.Words.{Asked, Open, Audit, command_of}
+use Rattle.knxsec_app.specs.Answer.{Answer}
+use Rattle.knxsec_app.specs.Opening.{refusal_of, apdu_of}
+use Rattle.knxsec_app.specs.Auditing.{under_tables, audit_answer}
+
+-- printed where the words are of no form
+abbrev pub usage_line : List ℕ
+usage_line =
+    codes "usage: knxsec open KEYHEX FRAMEHEX | audit TABLES FRAMES | audit-keyring KEYRING PASSWORDFILE TABLES FRAMES | replay SCRIPT | make NUMBER COUNT\n"
+
+-- the APDU in hexadecimal, or the verdict
+abbrev pub opening_answer : Option Verdict → List ℕ → Answer
+opening_answer None apdu = record { report = encode_lower apdu ++ 10 ∷ []; status = Done }
+opening_answer (Some verdict) apdu = record { report = verdict_text verdict [] ++ 10 ∷ []; status = Alarm }
+
+-- the octets of the file of this name
+abbrev pub octets_in : List File → List ℕ → List ℕ
+octets_in files name = unwrap_or (octets_named files name) []
+
+-- the answer to what was asked, where these are the files
+abbrev pub answer_to : Option Asked → List File → Answer
+answer_to None files = record { report = usage_line; status = Usage }
+answer_to (Some (Open key frame)) files = opening_answer (refusal_of key frame) (apdu_of key frame)
+answer_to (Some (Audit tables frames)) files = audit_answer (octets_in files tables) (octets_in files frames)
+
+-- the answer to the words, where these are the files
+abbrev pub answer_of : List (List ℕ) → List File → Answer
+answer_of words files = answer_to (command_of words) files
+
+-- the command names no file
+abbrev pub NamesNoFile : Option Asked → Type 0
+NamesNoFile None = Unit {0}
+NamesNoFile (Some (Open key frame)) = Unit {0}
+NamesNoFile (Some (Audit tables frames)) = ⊥
+
+-- each file that the command names is one of these
+abbrev pub AreThere : Option Asked → List File → Type 0
+AreThere None files = Unit {0}
+AreThere (Some (Open key frame)) files = Unit {0}
+AreThere (Some (Audit tables frames)) files = IsThere files tables × IsThere files frames
+
+-- these are the files, as far as the command names any
+abbrev pub AreFiles : Option Asked → Seen → List File → Type 0
+AreFiles None seen files = Unit {0}
+AreFiles (Some (Open key frame)) seen files = Unit {0}
+AreFiles (Some (Audit tables frames)) seen files = seen.told ≡ Some files
+
+-- each file that the command names was read to its end
+abbrev pub AreRead : Option Asked → List File → Seen → Type 0
+AreRead None files seen = Unit {0}
+AreRead (Some (Open key frame)) files seen = Unit {0}
+AreRead (Some (Audit tables frames)) files seen =
+    (seen.places tables ≡ length (octets_in files tables)) × (seen.places frames ≡ length (octets_in files frames))
+
+-- the tables with these octets are refused
+abbrev pub RefusesTables : List ℕ → Type 0
+RefusesTables octets = (under_tables octets (λ rows. record { report = []; status = Done })).status ≡ Refused
+
+-- no file after a refused one was opened: its place is as before
+abbrev pub AreUnopened : Option Asked → List File → Seen → Seen → Type 0
+AreUnopened None files old new = Unit {0}
+AreUnopened (Some (Open key frame)) files old new = Unit {0}
+AreUnopened (Some (Audit tables frames)) files old new =
+    RefusesTables (octets_in files tables) → frames ≢ tables → new.places frames ≡ old.places frames
+
+-- the report was written to its end after all files were read
+abbrev pub IsWhole : Status → Type 0
+IsWhole Done = Unit {0}
+IsWhole Alarm = Unit {0}
+IsWhole _ = ⊥

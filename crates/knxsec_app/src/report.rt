@@ -1,0 +1,101 @@
+ghost use Rattle.std.specs.Prelude.{◌≡◌, ◌≢◌, ◌≤◌};
+ghost use Rattle.knx_base.specs.Faults.{HasCause, Rose};
+ghost use Rattle.knx_base.specs.Sink.{Prints, AppendsPrefix};
+ghost use Rattle.audit_core.specs.Text.{line_text, total_text};
+ghost use Rattle.knxsec_app.specs.Answer.{Answer, Answers, after};
+ghost use Rattle.knxsec_app.specs.Auditing.{total_status};
+ghost use Rattle.knxsec_app.specs.Ends.{EndsWriting};
+ghost use Rattle.knxsec_app.specs.Page.{Passes};
+ghost use Rattle.knxsec_app.specs.Commands.{IsWhole};
+ghost use Rattle.knxsec_app.specs.Refusing.{EndsList};
+
+use crate::Status;
+use crate::ending::ended;
+use crate::page::Page;
+use crate::refusing::{line_at, refuse};
+use audit_core::{Audit, Line, print_line};
+use frame_file::RecordFault;
+use knx_base::{Failed, LineBuf, Sink};
+use secure_apdu::ApduBuf;
+
+/// Adds a line to the page, or, where it is full, hands on all that waits and the line.
+pub(crate) fn pass_line<S: Sink>(
+    line: &Line,
+    time: Option<i64>,
+    apdu: &ApduBuf,
+    page: &mut Page,
+    out: &mut S,
+) -> Result<(), Failed>
+    ensures text { Passes page.old.held page.new.held (S.octets out.old) (S.octets out.new) result (line_text line.now time apdu.now) }
+    ensures cause { HasCause (S.faults out.old) (S.faults out.new) result }
+{
+    let held = page.len();
+    match print_line(line, time, apdu, page) {
+        Ok(()) => Ok(()),
+        Err(_) => {
+            page.cut(held);
+            page.hand_on(out)?;
+            print_line(line, time, apdu, out)
+        }
+    }
+}
+
+/// Hands on what waits, and ends the report with the total.
+pub(crate) fn finish<S: Sink>(audit: &Audit, page: &mut Page, out: &mut S) -> Status
+    ensures answer { Answers (after page.old.held (record { report = total_text audit.now.total; status = total_status audit.now.total })) result (S.octets out.old) (S.octets out.new) }
+    ensures ends { EndsWriting (S.faults out.old) (S.faults out.new) result }
+{
+    match page.hand_on(out) {
+        Ok(()) => ended(audit.print_total(out), total_status(audit)),
+        Err(_) => Status::WriteFault,
+    }
+}
+
+fn total_status(audit: &Audit) -> Status
+    ensures { result ≡ total_status audit.now.total }
+{
+    if audit.alarms() == 0 { Status::Done } else { Status::Alarm }
+}
+
+/// Hands on what waits, and ends the report with the refusal of the list of frames, or where its reader stopped.
+pub(crate) fn finish_frames<S: Sink>(fault: &RecordFault, page: &mut Page, out: &mut S) -> Status
+    ensures answer { EndsList fault.now page.old.held result (S.octets out.old) (S.octets out.new) }
+    ensures read_fault { result ≡ Status.ReadFault → fault.now ≡ RecordFault.ReadFault }
+    ensures write_fault { result ≡ Status.WriteFault → Rose (S.faults out.old) (S.faults out.new) }
+    ensures later { S.faults out.old ≤ S.faults out.new }
+    ensures no_usage { result ≢ Status.Usage }
+    ensures not_whole { IsWhole result → ⊥ }
+{
+    match fault {
+        RecordFault::Line(line, cause) => {
+            finish_refused(&line_at("frames", *line, cause.word()), page, out)
+        }
+        RecordFault::LongLine(line) => {
+            finish_refused(&line_at("frames", *line, "long"), page, out)
+        }
+        RecordFault::TooMany(line) => finish_refused(&line_at("frames", *line, "many"), page, out),
+        RecordFault::ReadFault => stop(Status::ReadFault, page, out),
+        RecordFault::NoMemory => stop(Status::NoMemory, page, out),
+    }
+}
+
+// Hands on what waits, and ends the report with the refusal of a file.
+fn finish_refused<S: Sink>(line: &LineBuf, page: &mut Page, out: &mut S) -> Status
+    ensures answer { Answers (after page.old.held (record { report = line.now; status = Status.Refused })) result (S.octets out.old) (S.octets out.new) }
+    ensures ends { EndsWriting (S.faults out.old) (S.faults out.new) result }
+{
+    match page.hand_on(out) {
+        Ok(()) => refuse(line, out),
+        Err(_) => Status::WriteFault,
+    }
+}
+
+/// Hands on what waits where the report can't go on, as far as the sink takes it.
+pub(crate) fn stop<S: Sink>(status: Status, page: &mut Page, out: &mut S) -> Status
+    ensures status { result ≡ status }
+    ensures text { AppendsPrefix (S.octets out.old) (S.octets out.new) page.old.held }
+    ensures later { S.faults out.old ≤ S.faults out.new }
+{
+    let _ = page.hand_on(out);
+    status
+}
