@@ -67,7 +67,7 @@ regrouped : (front held line handed kept : List ℕ) → handed ++ kept ≡ held
     → after (front ++ held) (after line answer) ≡ after ((front ++ handed) ++ kept) answer
 regrouped front held line handed kept same answer = ap (λ text. record { report = text; status = answer.status })
     (sym (append_assoc (front ++ held) line answer.report)
-        ∙ ap (λ text. text ++ answer.report) (append_assoc front held line ∙ ap (λ rest. front ++ rest) (sym same) ∙ sym (append_assoc front handed kept)))
+    ∙ ap (λ text. text ++ answer.report) (append_assoc front held line ∙ ap (λ rest. front ++ rest) (sym same) ∙ sym (append_assoc front handed kept)))
 
 -- one more record was taken, and its line passed on
 pub goes_on : (start now later : Seen) (rows : List Row) (audit next : AuditState) (records following : ReaderState) (held kept : List ℕ)
@@ -84,7 +84,7 @@ pub goes_on : (start now later : Seen) (rows : List Row) (audit next : AuditStat
 goes_on start now later rows audit next records following held kept old mid new octets apdu time line so_far goes taken knows rows_stay opened untimed passed =
     let told = knows so_far.past so_far.knows in
     let is_line : line_text line time apdu ≡ record_line rows so_far.past octets =
-            (λ i. line_text (told.0 i) (untimed i) (opened i)) ∙ ap (λ rows. record_line rows so_far.past octets) so_far.rows_are in
+    (λ i. line_text (told.0 i) (untimed i) (opened i)) ∙ ap (λ rows. record_line rows so_far.past octets) so_far.rows_are in
     record {
       past = octets ∷ so_far.past;
       knows = told.1;
@@ -129,7 +129,7 @@ pub answers_all : (start now : Seen) (rows : List Row) (audit : AuditState) (rec
 answers_all start now rows audit records held old mid new status so_far octets has said =
     let answer = frames_answer rows so_far.past (left now records octets) in
     let whole : after so_far.front (after held answer) ≡ frames_answer rows [] (records_of octets)
-            = ap (λ text. record { report = text; status = answer.status }) (sym (append_assoc so_far.front held answer.report)) ∙ sym (so_far.left_is octets has) in
+    = ap (λ text. record { report = text; status = answer.status }) (sym (append_assoc so_far.front held answer.report)) ∙ sym (so_far.left_is octets has) in
     subst (λ a. Answers a status old new) whole (answers_after old mid new so_far.front (after held answer) status so_far.printed said)
 
 -- the report could not go on
@@ -154,12 +154,12 @@ pub stops_at_line : (start now later : Seen) (rows : List Row) (audit next : Aud
 stops_at_line start now later rows audit next records following held old mid new octets apdu time line so_far goes taken knows opened untimed begun all has =
     let told = knows so_far.past so_far.knows in
     let is_line : line_text line time apdu ≡ record_line rows so_far.past octets =
-            (λ i. line_text (told.0 i) (untimed i) (opened i)) ∙ ap (λ rows. record_line rows so_far.past octets) so_far.rows_are in
+    (λ i. line_text (told.0 i) (untimed i) (opened i)) ∙ ap (λ rows. record_line rows so_far.past octets) so_far.rows_are in
     let rest = frames_answer rows (octets ∷ so_far.past) (left later following all) in
     let is_left : frames_answer rows so_far.past (left now records all) ≡ after (record_line rows so_far.past octets) rest =
-            ap (frames_answer rows so_far.past) (taken all (has_same start now [] records.held 0 goes all has)) ∙ one_more rows so_far.past octets (left later following all) in
+    ap (frames_answer rows so_far.past) (taken all (has_same start now [] records.held 0 goes all has)) ∙ one_more rows so_far.past octets (left later following all) in
     let text : (held ++ line_text line time apdu) ++ rest.report ≡ held ++ (frames_answer rows so_far.past (left now records all)).report =
-            append_assoc held (line_text line time apdu) rest.report ∙ ap (λ text. held ++ (text ++ rest.report)) is_line ∙ ap (λ answer. held ++ answer.report) (sym is_left) in
+    append_assoc held (line_text line time apdu) rest.report ∙ ap (λ text. held ++ (text ++ rest.report)) is_line ∙ ap (λ answer. held ++ answer.report) (sym is_left) in
     answers_all start now rows audit records held old mid new WriteFault so_far all has
     (subst (AppendsPrefix mid new) text (prefix_more mid new (held ++ line_text line time apdu) rest.report begun))
 
@@ -182,7 +182,7 @@ finishes start now rows audit records held old mid new status so_far goes none s
     answers_all start now rows audit records held old mid new status so_far all has
     (subst (λ answer. Answers (after held answer) status mid new)
     (ap (λ t. record { report = total_text t; status = total_status t }) total ∙ sym (none_left rows so_far.past)
-        ∙ ap (frames_answer rows so_far.past) (sym (none all (has_same start now [] records.held 0 goes all has))))
+    ∙ ap (frames_answer rows so_far.past) (sym (none all (has_same start now [] records.held 0 goes all has))))
     said)
 
 -- the report was ended with a refusal, or the reader stopped

@@ -54,7 +54,11 @@ pub(crate) fn finish<S: Sink>(audit: &Audit, page: &mut Page, out: &mut S) -> St
 fn total_status(audit: &Audit) -> Status
     ensures { result ≡ total_status audit.now.total }
 {
-    if audit.alarms() == 0 { Status::Done } else { Status::Alarm }
+    if audit.alarms() == 0 {
+        Status::Done
+    } else {
+        Status::Alarm
+    }
 }
 
 /// Hands on what waits, and ends the report with the refusal of the list of frames, or where its reader stopped.

@@ -1,7 +1,10 @@
 use crate::{Status, run};
-use knx_base::{MemFiles, MemSink, NoMemory};
-use std::alloc::Global;
+use knx_base::{HostFiles, MemSink, NoMemory};
+use std::alloc::AllocGlobal;
+use std::rt;
 use std::test::Fail;
+
+mod audits;
 
 const KEY: &str = "000102030405060708090a0b0c0d0e0f";
 
@@ -9,13 +12,18 @@ const KEY: &str = "000102030405060708090a0b0c0d0e0f";
 const TELEGRAM: &str = "2900bce011070a030e03f1100000000000050d5858028267";
 
 // What `run` prints for these words into a sink with this room, and its status.
-fn printed(alloc: Global, texts: &[&str], room: usize) -> Result<(MemSink, Status), NoMemory> {
+fn printed<R: rt::Files + AllocGlobal>(
+    rt: &R,
+    texts: &[&str],
+    room: usize,
+) -> Result<(MemSink, Status), NoMemory> {
+    let alloc = rt.alloc();
     let mut words = Vec::new(alloc);
     for text in texts {
         words.push(String::from_str(alloc, text)?)?;
     }
     let mut out = MemSink::new(alloc, room)?;
-    let status = run(alloc, &words, &mut MemFiles::new(alloc), &mut out);
+    let status = run(alloc, &words, &mut HostFiles::new(rt), &mut out);
     Ok((out, status))
 }
 
@@ -25,7 +33,7 @@ fn words_of_no_form_print_the_usage_line(rt: HostRuntime) -> Result<(), Fail> {
         b"usage: knxsec open KEYHEX FRAMEHEX | audit TABLES FRAMES | audit-keyring KEYRING PASSWORDFILE TABLES FRAMES | replay SCRIPT | make NUMBER COUNT\n";
     let short_key = "000102030405060708090a0b0c0d0e0";
     for texts in [["open", short_key, TELEGRAM], ["open", KEY, ""]] {
-        let (out, status) = printed(rt.alloc(), &texts, 1000)?;
+        let (out, status) = printed(&rt, &texts, 1000)?;
         assert_eq!(rt; status, Status::Usage);
         assert_eq!(rt; out.bytes(), usage.as_slice());
     }
@@ -84,7 +92,7 @@ fn frames_open_or_print_their_verdict(rt: HostRuntime) -> Result<(), Fail> {
         ("2900bce011070a03ff", "not-frame escape\n", Status::Alarm),
     ];
     for (frame, report, ended) in rows {
-        let (out, status) = printed(rt.alloc(), &["open", KEY, frame], 100)?;
+        let (out, status) = printed(&rt, &["open", KEY, frame], 100)?;
         assert_eq!(rt; out.bytes(), report.as_bytes());
         assert_eq!(rt; status, ended);
     }
@@ -94,7 +102,7 @@ fn frames_open_or_print_their_verdict(rt: HostRuntime) -> Result<(), Fail> {
 #[test]
 fn a_changed_code_is_told_beside_the_computed_one(rt: HostRuntime) -> Result<(), Fail> {
     let changed = "2900bce011070a030e03f1100000000000050d5858028268";
-    let (out, status) = printed(rt.alloc(), &["open", KEY, changed], 100)?;
+    let (out, status) = printed(&rt, &["open", KEY, changed], 100)?;
     assert_eq!(rt; status, Status::Alarm);
     assert!(rt; out.bytes().starts_with(b"bad-code said "));
     assert_eq!(rt; out.bytes().len(), 41);
@@ -103,7 +111,7 @@ fn a_changed_code_is_told_beside_the_computed_one(rt: HostRuntime) -> Result<(),
 
 #[test]
 fn a_full_sink_is_a_write_fault(rt: HostRuntime) -> Result<(), Fail> {
-    let (out, status) = printed(rt.alloc(), &["open", KEY, TELEGRAM], 2)?;
+    let (out, status) = printed(&rt, &["open", KEY, TELEGRAM], 2)?;
     assert_eq!(rt; status, Status::WriteFault);
     assert_eq!(rt; out.bytes(), b"00".as_slice());
     Ok(())

@@ -21,12 +21,7 @@ use std::alloc::Global;
 ///   this order, each read to its end before the next.
 ///
 /// All other words are answered by the usage line.
-pub fn run<F: Files, S: Sink>(
-    alloc: Global,
-    words: &[String],
-    files: &mut F,
-    out: &mut S,
-) -> Status
+pub fn run<F: Files, S: Sink>(alloc: Global, words: &[String], files: &mut F, out: &mut S) -> Status
     // Where the files tell their names, each that the words name is one of them.
     requires there { ForSome (F.seen files.old).told (λ told. AreThere (command_of (map string_bytes words.now)) told) }
     ensures answer { (told : List File) → AreFiles (command_of (map string_bytes words.now)) (F.seen files.old) told

@@ -17,7 +17,7 @@ returns-in-Ok-Some-clause-answer g c told is =
     let read = whole_text most_tables _ _ _ _ c.in-Ok-Some.field-0-is (c.in-Ok-Some.ensures.whole _ (holds_there (g.F.Files.seen c.args.files.now) told c.args.tables.now is there.0)) in
     subst (λ answer. Answers answer c.audit_under.result (g.S.Sink.octets c.args.out.now) (g.S.Sink.octets c.audit_under.new.out))
     (ap (λ text. where_rows (λ rows. frames_answer rows [] (records_of frames)) (tables_of text)) (c.deref.ensures.value ∙ read.0)
-        ∙ sym (under_short (octets_in told c.args.tables.now) (λ rows. frames_answer rows [] (records_of frames)) read.1))
+    ∙ sym (under_short (octets_in told c.args.tables.now) (λ rows. frames_answer rows [] (records_of frames)) read.1))
     (c.audit_under.ensures.answer frames (holds_there (g.F.Files.seen c.read_all.new.files) told c.args.frames.now (c.read_all.ensures.told ∙ is) there.1))
 
 pub returns-in-Ok-Some-clause-whole : goal.returns-in-Ok-Some-clause-whole

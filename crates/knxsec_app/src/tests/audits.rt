@@ -1,0 +1,208 @@
+ghost use Rattle.std.specs.Prelude.{◌≡◌, ◌∷◌, [], ◌≤◌, map, codes, IfOk};
+ghost use Rattle.std.specs.String.{string_bytes};
+
+use crate::{Status, run};
+use knx_base::{HostFiles, HostSink, MemFiles, MemSink, NoMemory};
+use std::alloc::{AllocGlobal, Global};
+use std::test::Fail;
+use std::fs;
+use std::process::Abort;
+
+const TABLES: &str =
+    "group 1/2/3 000102030405060708090a0b0c0d0e0f conf\nrole 1/2/3 1.1.7 command\n";
+
+const AUTH_TABLES: &str =
+    "group 1/2/3 000102030405060708090a0b0c0d0e0f auth\nrole 1/2/3 1.1.7 command";
+
+const OBSERVER_TABLES: &str =
+    "group 1/2/3 000102030405060708090a0b0c0d0e0f conf\nrole 1/2/3 1.1.7 observe\n";
+
+const DOUBLED_TABLES: &str =
+    "group 1/2/3 000102030405060708090a0b0c0d0e0f conf\ngroup 1/515 000102030405060708090a0b0c0d0e0f auth\n";
+
+/// From 1.1.7 to the group 1/2/3 under number 5, a GroupValue_Write of 1: twice, and the second time as a repetition.
+const TWICE: &str =
+    "2900bce011070a030e03f1100000000000050d5858028267\n2900bce011070a030e03f1100000000000050d5858028267\n";
+
+const REPEATED: &str =
+    "2900bce011070a030e03f1100000000000050d5858028267\n29009ce011070a030e03f1100000000000050d5858028267";
+
+/// The same under number 6, readable, and then under number 5.
+const READABLE: &str =
+    "2900bce011070a030e03f1000000000000060081615ae14f\n2900bce011070a030e03f1100000000000050d5858028267\n";
+
+const ONCE: &str = "2900bce011070a030e03f1100000000000050d5858028267\n";
+
+fn audit_words(alloc: Global) -> Result<Vec<String>, NoMemory>
+    ensures { IfOk result (λ words. map string_bytes words.items ≡ codes "audit" ∷ codes "tables" ∷ codes "frames" ∷ []) }
+{
+    let mut words = Vec::new(alloc);
+    words.push(String::from_str(alloc, "audit")?)?;
+    words.push(String::from_str(alloc, "tables")?)?;
+    words.push(String::from_str(alloc, "frames")?)?;
+    Ok(words)
+}
+
+// What an audit of these files prints, where the call on them with this number fails, and its status.
+fn audited(
+    alloc: Global,
+    tables: &str,
+    frames: &str,
+    failing: u64,
+) -> Result<(MemSink, Status), Fail>
+    requires numbered { (1 ≤ failing) × (failing ≤ 1000000) }
+{
+    if tables.len() > 1000 || frames.len() > 1000 {
+        return Err(Fail::from("a short text"));
+    }
+    let words = audit_words(alloc)?;
+    let mut files = MemFiles::new(alloc);
+    files.add("tables", tables.as_bytes())?;
+    files.add("frames", frames.as_bytes())?;
+    files.fail_at(failing)?;
+    let mut out = MemSink::new(alloc, 1000)?;
+    let status = run(alloc, &words, &mut files, &mut out);
+    Ok((out, status))
+}
+
+// The reports of audits, each with its tables, its frames and its status.
+fn compare<R: Abort + AllocGlobal, const N: usize>(
+    rt: &R,
+    rows: [(&str, &str, &str, Status); N],
+) -> Result<(), Fail> {
+    for (tables, frames, report, ended) in rows {
+        let (out, status) = audited(rt.alloc(), tables, frames, 1_000_000)?;
+        assert_eq!(rt; out.bytes(), report.as_bytes());
+        assert_eq!(rt; status, ended);
+    }
+    Ok(())
+}
+
+#[test]
+fn each_record_is_judged_by_those_before_it(rt: HostRuntime) -> Result<(), Fail> {
+    let rows = [
+        (
+            TABLES,
+            "",
+            "total 0 accepted 0 sync 0 alarms 0\n",
+            Status::Done,
+        ),
+        (
+            TABLES,
+            TWICE,
+            "1 1.1.7 > 1/2/3 accepted number 5 GroupValue_Write 0081\n2 1.1.7 > 1/2/3 stale kept 5 got 5 !\ntotal 2 accepted 1 sync 0 alarms 1\n",
+            Status::Alarm,
+        ),
+        (
+            TABLES,
+            REPEATED,
+            "1 1.1.7 > 1/2/3 accepted number 5 GroupValue_Write 0081\n2 1.1.7 > 1/2/3 repeat stale kept 5 got 5\ntotal 2 accepted 1 sync 0 alarms 0\n",
+            Status::Done,
+        ),
+        (
+            OBSERVER_TABLES,
+            TWICE,
+            "1 1.1.7 > 1/2/3 role needs command has observe !\n2 1.1.7 > 1/2/3 stale kept 5 got 5 !\ntotal 2 accepted 0 sync 0 alarms 2\n",
+            Status::Alarm,
+        ),
+        (
+            TABLES,
+            READABLE,
+            "1 1.1.7 > 1/2/3 level !\n2 1.1.7 > 1/2/3 stale kept 6 got 5 !\ntotal 2 accepted 0 sync 0 alarms 2\n",
+            Status::Alarm,
+        ),
+        (
+            AUTH_TABLES,
+            READABLE,
+            "1 1.1.7 > 1/2/3 accepted number 6 GroupValue_Write 0081\n2 1.1.7 > 1/2/3 stale kept 6 got 5 !\ntotal 2 accepted 1 sync 0 alarms 1\n",
+            Status::Alarm,
+        ),
+    ];
+    compare(&rt, rows)
+}
+
+#[test]
+fn readable_frames_and_records_that_are_none_are_told(rt: HostRuntime) -> Result<(), Fail> {
+    let rows = [
+        (
+            TABLES,
+            "2900bce011070a03010081\n2b00bc11070a03e100813c\n2b0703010004021234bc11070a03e100813c\n",
+            "1 1.1.7 > 1/2/3 plain GroupValue_Write !\n2 1.1.7 > 1/2/3 plain GroupValue_Write !\n3 1.1.7 > 1/2/3 plain GroupValue_Write !\ntotal 3 accepted 0 sync 0 alarms 3\n",
+            Status::Alarm,
+        ),
+        (
+            TABLES,
+            "2b00bc11070a03e100813d\n2b00cc\n# a comment\n2900bce011070a030100\n\n2900bce011070a03ff\n",
+            "1 - not-frame check 3d 3c\n2 - not-frame acknowledge cc\n3 - not-frame length 2 1\n4 - not-frame escape\ntotal 4 accepted 0 sync 0 alarms 0\n",
+            Status::Done,
+        ),
+        (
+            "role 1/2/3 any command\n",
+            ONCE,
+            "1 1.1.7 > 1/2/3 no-key\ntotal 1 accepted 0 sync 0 alarms 0\n",
+            Status::Done,
+        ),
+        (
+            "group 1/2/3 000102030405060708090a0b0c0d0e0f conf\n",
+            ONCE,
+            "1 1.1.7 > 1/2/3 sender !\ntotal 1 accepted 0 sync 0 alarms 1\n",
+            Status::Alarm,
+        ),
+    ];
+    compare(&rt, rows)
+}
+
+#[test]
+fn a_refused_file_ends_the_report(rt: HostRuntime) -> Result<(), Fail> {
+    let rows = [
+        (
+            DOUBLED_TABLES,
+            ONCE,
+            "refused tables line 2 twice\n",
+            Status::Refused,
+        ),
+        (
+            TABLES,
+            "290",
+            "refused frames line 1 digits\n",
+            Status::Refused,
+        ),
+        (
+            TABLES,
+            "\n2900bce011070a03010081\n29 00\n",
+            "1 1.1.7 > 1/2/3 plain GroupValue_Write !\nrefused frames line 3 words\n",
+            Status::Refused,
+        ),
+    ];
+    compare(&rt, rows)
+}
+
+#[test]
+fn a_fault_before_the_first_line_leaves_nothing_written(rt: HostRuntime) -> Result<(), Fail> {
+    let alloc = rt.alloc();
+    let (out, status) = audited(alloc, TABLES, TWICE, 2)?;
+    assert_eq!(rt; out.bytes(), b"".as_slice());
+    assert_eq!(rt; status, Status::ReadFault);
+    let words = audit_words(alloc)?;
+    let mut files = MemFiles::new(alloc);
+    files.add("tables", TABLES.as_bytes())?;
+    files.add("frames", b"")?;
+    let mut out = MemSink::new(alloc, 1000)?;
+    out.fail_at(1)?;
+    let status = run(alloc, &words, &mut files, &mut out);
+    assert_eq!(rt; out.bytes(), b"".as_slice());
+    assert_eq!(rt; status, Status::WriteFault);
+    Ok(())
+}
+
+#[test]
+fn an_audit_of_the_host_s_files(rt: HostRuntime) -> Result<(), Fail> {
+    fs::write(&rt, "tables", TABLES)?;
+    fs::write(&rt, "frames", TWICE)?;
+    let words = audit_words(rt.alloc())?;
+    let mut files = HostFiles::new(&rt);
+    let mut out = HostSink::new(&rt);
+    let status = run(rt.alloc(), &words, &mut files, &mut out);
+    assert_eq!(rt; status, Status::Alarm);
+    Ok(())
+}
