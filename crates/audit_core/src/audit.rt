@@ -53,6 +53,7 @@ impl Audit {
         ensures line { (past : List (List ℕ)) → Knows self.old past → IfOk result (λ line. (line ≡ line_of self.old.rows past octets.now) × Knows self.new (octets.now ∷ past)) }
         ensures opened { OnOk result (apdu.new ≡ opened_of self.old.rows (telegram_in octets.now)) }
         ensures rows { self.new.rows ≡ self.old.rows }
+        ensures counted { OnOk result (self.new.total.records ≡ self.old.total.records + 1) }
         ensures unchanged { OnErr result ((self.new ≡ self.old) × (apdu.new ≡ apdu.old)) }
     {
         self.step(octets, apdu)
