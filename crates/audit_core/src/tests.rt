@@ -50,7 +50,7 @@ fn audited(alloc: Global, rows: &[u8], frames: &[&str]) -> Result<(MemSink, u64)
 
 #[test]
 fn a_number_is_stale_once_it_was_kept(rt: HostRuntime) -> Result<(), Fail> {
-    let rows: [(&[u8], [&str; 2], &str, u64); 5] = [
+    let rows: [(&[u8], [&str; 2], &str, u64); 3] = [
         (
             CONF,
             [TELEGRAM, TELEGRAM],
@@ -69,6 +69,18 @@ fn a_number_is_stale_once_it_was_kept(rt: HostRuntime) -> Result<(), Fail> {
             "1 1.1.7 > 1/2/3 role needs command has observe !\n2 1.1.7 > 1/2/3 stale kept 5 got 5 !\ntotal 2 accepted 0 sync 0 alarms 2\n",
             2,
         ),
+    ];
+    for (rows, frames, told, alarms) in rows {
+        let (out, count) = audited(rt.alloc(), rows, &frames)?;
+        assert_eq!(rt; out.bytes(), told.as_bytes());
+        assert_eq!(rt; count, alarms);
+    }
+    Ok(())
+}
+
+#[test]
+fn a_readable_frame_is_accepted_where_its_group_allows(rt: HostRuntime) -> Result<(), Fail> {
+    let rows: [(&[u8], [&str; 2], &str, u64); 2] = [
         (
             CONF,
             [READABLE, TELEGRAM],
