@@ -1,6 +1,6 @@
 -- One record more: the running state is the one after all records with it.
 use Rattle.std.proofs.Common.{◌≡◌, ℕ, ◌+◌, ◌<◌, ◌≤◌, max, Bool, true, false, List, ◌∷◌, length, Some, None, Result, Ok, Err, refl, sym, ap, subst, ◌∙◌, arith}
-use Rattle.std.specs.Prelude.{if◌then◌else◌, IfOk}
+use Rattle.std.specs.Prelude.{if◌then◌else◌, IfOk, OnOk}
 use Rattle.std.specs.List.{filter}
 use Rattle.cemi_frames.specs.Frames.{Telegram}
 use Rattle.cemi_frames.specs.declared.frame.NotFrame.{NotFrame}
@@ -75,7 +75,12 @@ knows_next old new past octets line knows steps =
       },
     )
 
+pub line_after : {E : Type 0} (old new : AuditState) (past : List (List ℕ)) (octets : List ℕ) (result : Result Line E) → Knows old past
+    → IfOk result (λ line. Steps old new octets line) → IfOk result (λ line. line ≡ line_of old.rows past octets)
+line_after old new past octets (Ok line) knows steps = (knows_next old new past octets line knows steps).0
+line_after old new past octets (Err fault) knows steps = steps
+
 pub knows_after : {E : Type 0} (old new : AuditState) (past : List (List ℕ)) (octets : List ℕ) (result : Result Line E) → Knows old past
-    → IfOk result (λ line. Steps old new octets line) → IfOk result (λ line. (line ≡ line_of old.rows past octets) × Knows new (octets ∷ past))
-knows_after old new past octets (Ok line) knows steps = knows_next old new past octets line knows steps
+    → IfOk result (λ line. Steps old new octets line) → OnOk result (Knows new (octets ∷ past))
+knows_after old new past octets (Ok line) knows steps = (knows_next old new past octets line knows steps).1
 knows_after old new past octets (Err fault) knows steps = steps

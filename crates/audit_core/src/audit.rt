@@ -50,10 +50,13 @@ impl Audit {
     /// first; where there is none nothing has changed.
     pub fn frame(&mut self, octets: &[u8], apdu: &mut ApduBuf) -> Result<Line, NoMemory>
         requires few { self.old.total.records < 2 ^ 64 - 1 }
-        ensures line { (past : List (List ℕ)) → Knows self.old past → IfOk result (λ line. (line ≡ line_of self.old.rows past octets.now) × Knows self.new (octets.now ∷ past)) }
+        ensures line { (past : List (List ℕ)) → Knows self.old past → IfOk result (λ line. line ≡ line_of self.old.rows past octets.now) }
+        ensures knows { (past : List (List ℕ)) → Knows self.old past → OnOk result (Knows self.new (octets.now ∷ past)) }
         ensures opened { OnOk result (apdu.new ≡ opened_of self.old.rows (telegram_in octets.now)) }
         ensures rows { self.new.rows ≡ self.old.rows }
-        ensures unchanged { OnErr result ((self.new ≡ self.old) × (apdu.new ≡ apdu.old)) }
+        ensures counted { OnOk result (self.new.total.records ≡ self.old.total.records + 1) }
+        ensures unchanged { OnErr result (self.new ≡ self.old) }
+        ensures apdu_stays { OnErr result (apdu.new ≡ apdu.old) }
     {
         self.step(octets, apdu)
     }

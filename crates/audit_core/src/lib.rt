@@ -8,6 +8,8 @@ mod line;
 mod marks;
 mod print;
 mod tally;
+#[cfg(test)]
+mod tests;
 
 pub use audit::Audit;
 pub use line::{Addresses, Line};
