@@ -98,14 +98,6 @@ goes_on start now later rows audit next records following held kept old mid new 
           ∙ regrouped so_far.front held (record_line rows so_far.past octets) passed.0 kept (passed.2 ∙ ap (λ text. held ++ text) is_line) (frames_answer rows (octets ∷ so_far.past) (left later following all));
     }
 
--- so many records were taken after as many before
-pub counts_on : (audit next : AuditState) (octets : List ℕ) (given following : ℕ) (past : List (List ℕ)) → Knows audit past → Knows next (octets ∷ past)
-    → audit.total.records ≡ given → following ≡ given + 1 → next.total.records ≡ following
-counts_on audit next octets given following past before now counted more =
-    let one : next.total.records ≡ length (octets ∷ past) = ap (λ total. total.records) now.total in
-    let those : audit.total.records ≡ length past = ap (λ total. total.records) before.total in
-    omega (arith, one, those, counted, more)
-
 pub fewer : (old new : Seen) (held kept : List ℕ) → GoesOn old new held kept 1 → GoesOn old new held kept 0
 fewer old new held kept goes = record {
   told = goes.told;

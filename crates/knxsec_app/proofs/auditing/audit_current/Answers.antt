@@ -1,10 +1,10 @@
-use Rattle.std.proofs.Common.{rules, ◌≡◌, [], sym, subst}
+use Rattle.std.proofs.Common.{rules, ◌≡◌, ◌+◌, [], ap, sym, subst, ◌∙◌}
 use Rattle.knx_base.specs.Files.{Seen}
 use Rattle.knx_base.proofs.Readers.{goes_then}
 use Rattle.knxsec_app.specs.Answer.{Answers}
 use Rattle.frame_file.specs.Records.{records_of}
 use Rattle.knxsec_app.specs.Auditing.{frames_answer}
-use Rattle.knxsec_app.proofs.SoFar.{goes_on, counts_on, fewer, stops, stops_at_line, finishes, refuses, reads_to_end, some_given, none_given, fault_given, first_left}
+use Rattle.knxsec_app.proofs.SoFar.{goes_on, fewer, stops, stops_at_line, finishes, refuses, reads_to_end, some_given, none_given, fault_given, first_left}
 use Rattle.knxsec_app.proofs.auditing.audit_current.Goals as goal
 
 pub records-preserved : goal.records-preserved
@@ -18,10 +18,10 @@ records-preserved g c =
       no_fault = given.0.still_none;
       at = given.0.gives.at;
       goes = goes_then start now later _ _ _ 0 0 before.goes (fewer now later _ _ given.0.gives.goes);
-      counted = counts_on _ _ _ _ _ before.so_far.past before.so_far.knows (c.in-Ok-frame.ensures.line before.so_far.past before.so_far.knows).1 before.counted given.0.gives.counted;
+      counted = c.in-Ok-frame.ensures.counted ∙ ap (λ n. n + 1) before.counted ∙ sym given.0.gives.counted;
       few = given.0.gives.few;
       so_far = goes_on start now later _ _ _ _ _ _ _ _ _ _ _ _ c.in-Ok-Some.record.time c.in-Ok-frame.line before.so_far before.goes (first_left now later _ _ _ _ given.0)
-          c.in-Ok-frame.ensures.line c.frame.ensures.rows c.in-Ok-frame.ensures.opened given.1 c.in-Ok-pass_line.ensures.text;
+          (λ past knows. (c.in-Ok-frame.ensures.line past knows, c.in-Ok-frame.ensures.knows past knows)) c.frame.ensures.rows c.in-Ok-frame.ensures.opened given.1 c.in-Ok-pass_line.ensures.text;
       files_later = search rules;
       later = search rules;
     }
@@ -39,7 +39,7 @@ returns-in_default-pass_line-clause-answer g c =
     let later : Seen = g.F.Files.seen c.next.new.files in
     let given = some_given now later _ _ c.next.result c.in-Ok-Some.field-0 c.in-Ok-Some.record c.in-Ok-Some.is c.in-Ok-Some.field-0-is c.next.follows.holds-at-none in
     stops_at_line (g.F.Files.seen c.args.files.now) now later _ _ _ _ c.next.follows.lender-at-none.reader _ _ _ _ _ _ c.in-Ok-Some.record.time c.in-Ok-frame.line before.so_far before.goes (first_left now later _ _ _ _ given.0)
-    c.in-Ok-frame.ensures.line c.in-Ok-frame.ensures.opened given.1 c.in_default-pass_line.ensures.text
+    (λ past knows. (c.in-Ok-frame.ensures.line past knows, c.in-Ok-frame.ensures.knows past knows)) c.in-Ok-frame.ensures.opened given.1 c.in_default-pass_line.ensures.text
 
 pub returns-in-Ok-None-clause-answer : goal.returns-in-Ok-None-clause-answer
 returns-in-Ok-None-clause-answer g c =
