@@ -15,22 +15,15 @@ use Rattle.key_tables.specs.Build.{is_repeated}
 use Rattle.keyring_reader.specs.declared.attribute.Attribute.TheVariants.{Address, Key, IndividualAddress}
 use Rattle.keyring_reader.specs.declared.fault.KeyringFault.{KeyringFault}
 use Rattle.keyring_reader.specs.declared.fault.KeyringFault.TheVariants as fault
+use Rattle.keyring_reader.specs.declared.said.Listing.{Listing}
+use Rattle.keyring_reader.specs.declared.said.Said.{Said}
+use Rattle.keyring_reader.specs.declared.said.Said.TheVariants.{Nothing, KeyOf, Lists}
 use Rattle.keyring_reader.specs.declared.kind.Kind.{Kind}
 use Rattle.keyring_reader.specs.declared.kind.Kind.TheVariants as kind
 use Rattle.keyring_reader.specs.Attributes.{name_of, required}
-use Rattle.keyring_reader.specs.Keys.{Wrapping, key_named}
+use Rattle.keyring_reader.specs.declared.keys.Wrapping.{Wrapping}
+use Rattle.keyring_reader.specs.Keys.{key_named}
 use Rattle.keyring_reader.specs.Kinds.{device_named, group_named, kind_in}
-
--- an interface lists a group, to which these may send: its senders, and the interface itself where it has an address
-pub record Listing : Type 0 where
-  pub group : GroupAddr
-  pub senders : List IndAddr
-
--- what one element says
-pub data Said : Type 0 where
-  Nothing : Said
-  KeyOf : (row : Row) → Said
-  Lists : (listing : Listing) → Said
 
 -- what follows where this is right
 infixl 10 ◌>>=◌

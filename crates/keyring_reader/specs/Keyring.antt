@@ -11,7 +11,8 @@ use Rattle.keyring_reader.specs.declared.fault.KeyringFault.{KeyringFault}
 use Rattle.keyring_reader.specs.declared.fault.KeyringFault.TheVariants as fault
 use Rattle.keyring_reader.specs.Attributes.{required}
 use Rattle.keyring_reader.specs.Contents.{◌>>=◌, contents_of}
-use Rattle.keyring_reader.specs.Keys.{Wrapping, stored_block, password_key, short_hash}
+use Rattle.keyring_reader.specs.declared.keys.Wrapping.{Wrapping}
+use Rattle.keyring_reader.specs.Keys.{stored_block, password_key, short_hash}
 use Rattle.keyring_reader.specs.Roles.{rows_of}
 use Rattle.keyring_reader.specs.Signed.{first_long, signature_of}
 
@@ -58,24 +59,31 @@ is_computed computed (Some stored) = bytes_eq stored computed
 abbrev pub signature_fault : Option (List ℕ) → List ℕ → Option KeyringFault
 signature_fault stored computed = if is_computed computed stored then None else Some (fault.Signature stored computed)
 
+-- what keys are wrapped under, which only a signature that is the computed one lets be used
+abbrev pub wrapping_of : List ℕ → List Tag → Stamps → Result Wrapping KeyringFault
+wrapping_of key tags stamps =
+    unless (signature_fault (stored_block stamps.signature) (signature_of tags key))
+    (Ok (record { key = key; vector = short_hash stamps.created }))
+
 -- ---- the keyring
 
-abbrev pub rows_under : Wrapping → List Tag → Result (List Row) KeyringFault
-rows_under under tags = do
-  contents ← contents_of under tags
-  Ok (rows_of contents)
+-- the tags of a document
+unfoldable pub tags_of : List ℕ → Result (List Tag) KeyringFault
+tags_of octets = unless (option_map fault.Tag (document_fault octets)) (Ok (events_of octets))
 
--- what the tags of a document say to the holder of this key
+-- what the tags say to the holder of this key
 unfoldable pub keyring_under : List ℕ → List Tag → Result (List Row) KeyringFault
 keyring_under key tags = do
   stamps ← stamps_of tags
-  unless (signature_fault (stored_block stamps.signature) (signature_of tags key))
-      (rows_under (record { key = key; vector = short_hash stamps.created }) tags)
+  under ← wrapping_of key tags stamps
+  contents ← contents_of under tags
+  Ok (rows_of contents)
 
 -- what a document says to the holder of this password
 unfoldable pub keyring_of : List ℕ → List ℕ → Result (List Row) KeyringFault
-keyring_of octets password =
-    unless (option_map fault.Tag (document_fault octets)) (keyring_under (password_key password) (events_of octets))
+keyring_of octets password = do
+  tags ← tags_of octets
+  keyring_under (password_key password) tags
 
 -- it is this fault that was found, or memory was wanting
 abbrev pub IsFault : {A : Type 0} → KeyringFault → Result A KeyringFault → Type 0

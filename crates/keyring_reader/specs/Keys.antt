@@ -7,6 +7,7 @@ use Rattle.base64.specs.GeneralPurpose.{encode_of}
 use Rattle.sha2.specs.Sha256.{sha256}
 use Rattle.aes_modes.specs.Modes.{cbc_of}
 use Rattle.kdf_sha.specs.Pbkdf2.{pbkdf2_of}
+use Rattle.keyring_reader.specs.declared.keys.Wrapping.{Wrapping}
 use Rattle.keyring_reader.specs.Blocks.{first_block}
 
 -- the base64 (RFC 4648, section 4) of these octets
@@ -31,11 +32,6 @@ short_hash octets = take 16 (sha256 octets)
 -- the block whose CBC is the wrapped one
 unfoldable pub unwrapped : List ℕ → List ℕ → List ℕ → Option (List ℕ)
 unwrapped key vector wrapped = first_block (λ plain. bytes_eq (cbc_of key vector plain) wrapped)
-
--- what keys are wrapped under: the password's key, and the initialization vector
-pub record Wrapping : Type 0 where
-  pub key : List ℕ
-  pub vector : List ℕ
 
 -- the key that is stored as this text
 abbrev pub key_named : Wrapping → List ℕ → Option (List ℕ)

@@ -9,7 +9,8 @@ use Rattle.key_tables.specs.declared.types.Channel.TheVariants as channel
 use Rattle.key_tables.specs.declared.types.Role.TheVariants.{Command, Manage}
 use Rattle.key_tables.specs.declared.types.Row.{Row}
 use Rattle.key_tables.specs.declared.types.Row.TheVariants as row
-use Rattle.keyring_reader.specs.Contents.{Listing, Contents}
+use Rattle.keyring_reader.specs.declared.said.Listing.{Listing}
+use Rattle.keyring_reader.specs.Contents.{Contents}
 
 -- each of these once, in ascending order of its number
 unfoldable pub ascending : {A : Type 0} → (A → ℕ) → List A → List A

@@ -39,3 +39,27 @@ pub enum KeyringFault {
     #[error("out of memory")]
     NoMemory,
 }
+
+impl From<AllocError> for KeyringFault {
+    ghost from_gives = { λ _ fault. fault ≡ NoMemory };
+
+    fn from(_error: AllocError) -> KeyringFault {
+        KeyringFault::NoMemory
+    }
+}
+
+impl<T: Drop> From<AllocFailed<T>> for KeyringFault {
+    ghost from_gives = { λ _ fault. fault ≡ NoMemory };
+
+    fn from(_error: AllocFailed<T>) -> KeyringFault {
+        KeyringFault::NoMemory
+    }
+}
+
+impl From<NoMemory> for KeyringFault {
+    ghost from_gives = { λ _ fault. fault ≡ KeyringFault.NoMemory };
+
+    fn from(_error: NoMemory) -> KeyringFault {
+        KeyringFault::NoMemory
+    }
+}

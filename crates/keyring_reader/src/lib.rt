@@ -4,7 +4,12 @@
 
 mod attribute;
 mod fault;
+mod form;
+mod keys;
 mod kind;
+mod said;
+mod signature;
+mod tags;
 
 pub use attribute::Attribute;
 pub use fault::KeyringFault;

@@ -1,0 +1,1 @@
+use sha2::{Digest, Sha256};
