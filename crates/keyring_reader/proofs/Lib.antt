@@ -1,2 +1,6 @@
 mod BlockLemmas
 mod StoredLemmas
+mod TagLemmas
+mod ListLemmas
+mod FormLemmas
+mod SignedLemmas

@@ -4,6 +4,8 @@ use Rattle.std.specs.Option.{option_map}
 use Rattle.std.specs.Str.{bytes_eq}
 use Rattle.tag_text.specs.declared.tag.Tag.{Tag}
 use Rattle.tag_text.specs.declared.tag.Tag.TheVariants.{Start, End, Finish}
+use Rattle.tag_text.specs.declared.tag.TagFault.{TagFault}
+use Rattle.tag_text.specs.declared.tag.TagFault.TheVariants as tag
 use Rattle.tag_text.specs.Document.{events_of, document_fault}
 use Rattle.key_tables.specs.declared.types.Row.{Row}
 use Rattle.keyring_reader.specs.declared.attribute.Attribute.TheVariants.{Created, Signature}
@@ -66,6 +68,11 @@ wrapping_of key tags stamps =
     (Ok (record { key = key; vector = short_hash stamps.created }))
 
 -- ---- the keyring
+
+-- want of memory is the keyring's own fault
+abbrev pub tag_fault : TagFault → KeyringFault
+tag_fault tag.NoMemory = fault.NoMemory
+tag_fault why = fault.Tag why
 
 -- the tags of a document
 unfoldable pub tags_of : List ℕ → Result (List Tag) KeyringFault

@@ -1,6 +1,7 @@
 pub mod Attributes
 pub mod Blocks
 pub mod Keys
+pub mod Texts
 pub mod Signed
 pub mod Kinds
 pub mod Contents

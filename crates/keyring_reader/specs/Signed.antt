@@ -14,10 +14,13 @@ use Rattle.keyring_reader.specs.Keys.{base64_of, short_hash}
 abbrev pub is_signed : List ℕ × List ℕ → Bool
 is_signed attribute = not (bytes_eq attribute.0 (codes "xmlns")) && not (bytes_eq attribute.0 (codes "Signature"))
 
--- the attributes in ascending order of the octets of their names
+-- with one more attribute in its place, where attributes stand in ascending order of the octets of their names
+abbrev pub placed : List (List ℕ × List ℕ) → List ℕ × List ℕ → List (List ℕ × List ℕ)
+placed ordered attribute = insert_entry (slice_cmp nat_cmp) ordered attribute.0 attribute.1
+
+-- the attributes in that order
 unfoldable pub by_name : List (List ℕ × List ℕ) → List (List ℕ × List ℕ)
-by_name attributes =
-    fold (λ ordered attribute. insert_entry (slice_cmp nat_cmp) ordered attribute.0 attribute.1) [] attributes
+by_name attributes = fold placed [] attributes
 
 -- the length of a text, in one octet, and the text
 abbrev pub sized : List ℕ → List ℕ
@@ -26,7 +29,7 @@ sized text = length text % 256 ∷ text
 abbrev pub signed_attribute : List ℕ × List ℕ → List ℕ
 signed_attribute attribute = sized attribute.0 ++ sized attribute.1
 
-unfoldable pub signed_tag : Tag → List ℕ
+abbrev pub signed_tag : Tag → List ℕ
 signed_tag (Start name attributes place) =
     1 ∷ sized name ++ flat_map signed_attribute (by_name (filter is_signed attributes))
 signed_tag (End place) = 2 ∷ []

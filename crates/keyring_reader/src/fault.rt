@@ -57,7 +57,7 @@ impl<T: Drop> From<AllocFailed<T>> for KeyringFault {
 }
 
 impl From<NoMemory> for KeyringFault {
-    ghost from_gives = { λ _ fault. fault ≡ KeyringFault.NoMemory };
+    ghost from_gives = { λ _ fault. fault ≡ NoMemory };
 
     fn from(_error: NoMemory) -> KeyringFault {
         KeyringFault::NoMemory

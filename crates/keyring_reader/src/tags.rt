@@ -1,12 +1,14 @@
 ghost use Rattle.std.specs.Prelude.{◌≡◌, IfOk, IfErr, Ok};
-ghost use Rattle.keyring_reader.specs.Keyring.{tags_of, IsFault};
+ghost use Rattle.keyring_reader.specs.Keyring.{tag_fault, tags_of, IsFault};
 
 use crate::KeyringFault;
 use std::alloc::Global;
 use tag_text::{Tag, TagFault, TagReader};
 
 // A fault of memory is the keyring's own.
-fn tag_fault(fault: TagFault) -> KeyringFault {
+fn tag_fault(fault: TagFault) -> KeyringFault
+    ensures { result ≡ tag_fault fault }
+{
     match fault {
         TagFault::NoMemory => KeyringFault::NoMemory,
         _ => KeyringFault::Tag(fault),
