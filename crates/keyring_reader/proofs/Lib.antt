@@ -1,6 +1,8 @@
+mod FaultLemmas
 mod BlockLemmas
 mod StoredLemmas
 mod TagLemmas
 mod ListLemmas
 mod FormLemmas
 mod SignedLemmas
+mod SenderLemmas

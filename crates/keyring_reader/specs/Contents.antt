@@ -57,21 +57,20 @@ devices_at place (word ∷ words) = do
   devices ← devices_at place words
   Ok (device ∷ devices)
 
--- ---- the elements of each kind
+-- the interface's own address, if it has one, and the addresses of the text
+abbrev pub senders_at : Option IndAddr → ℕ → List ℕ → Result (List IndAddr) KeyringFault
+senders_at own place text = do
+  devices ← devices_at place (words_of text)
+  Ok (option_to_list own ++ devices)
 
--- an interface may have an address
-abbrev pub interface_says : ℕ → Option (List ℕ) → Result Said KeyringFault
-interface_says place None = Ok Nothing
-interface_says place (Some text) = do
-  device ← device_at place text
-  Ok Nothing
+-- ---- the elements of each kind
 
 abbrev pub listing_says : Option IndAddr → List (List ℕ × List ℕ) → ℕ → Result Said KeyringFault
 listing_says own attributes place = do
   address ← required attributes Address place
   group ← group_at place address
-  senders ← devices_at place (words_of (unwrap_or (value_named attributes (codes "Senders")) []))
-  Ok (Lists (record { group = group; senders = option_to_list own ++ senders }))
+  senders ← senders_at own place (unwrap_or (value_named attributes (codes "Senders")) [])
+  Ok (Lists (record { group = group; senders = senders }))
 
 abbrev pub group_says : Wrapping → List (List ℕ × List ℕ) → ℕ → Result Said KeyringFault
 group_says under attributes place = do
@@ -81,21 +80,36 @@ group_says under attributes place = do
   key ← key_at under place text
   Ok (KeyOf (row.Group group key Auth))
 
--- a device may have a tool key
-abbrev pub device_says : Wrapping → List (List ℕ × List ℕ) → ℕ → Option (List ℕ) → Result Said KeyringFault
-device_says under attributes place None = Ok Nothing
-device_says under attributes place (Some text) = do
+abbrev pub tool_says : Wrapping → List (List ℕ × List ℕ) → ℕ → List ℕ → Result Said KeyringFault
+tool_says under attributes place text = do
   address ← required attributes IndividualAddress place
   device ← device_at place address
   key ← key_at under place text
   Ok (KeyOf (row.Tool device key))
 
+abbrev pub said_of : {A : Type 0} → Option A → (A → Result Said KeyringFault) → Result Said KeyringFault
+said_of None said = Ok Nothing
+said_of (Some x) said = said x
+
+abbrev pub address_says : ℕ → List ℕ → Result Said KeyringFault
+address_says place text = do
+  device ← device_at place text
+  Ok Nothing
+
+-- an interface may have an address
+abbrev pub interface_says : List (List ℕ × List ℕ) → ℕ → Result Said KeyringFault
+interface_says attributes place = said_of (value_named attributes (name_of IndividualAddress)) (address_says place)
+
+-- a device may have a tool key
+abbrev pub device_says : Wrapping → List (List ℕ × List ℕ) → ℕ → Result Said KeyringFault
+device_says under attributes place = said_of (value_named attributes (codes "ToolKey")) (tool_says under attributes place)
+
 -- what an element of this kind says, with these attributes at this place
 unfoldable pub says : Wrapping → Kind → List (List ℕ × List ℕ) → ℕ → Result Said KeyringFault
-says under (kind.Interface own) attributes place = interface_says place (value_named attributes (name_of IndividualAddress))
+says under (kind.Interface own) attributes place = interface_says attributes place
 says under (kind.Listing own) attributes place = listing_says own attributes place
 says under kind.GroupKey attributes place = group_says under attributes place
-says under kind.Device attributes place = device_says under attributes place (value_named attributes (codes "ToolKey"))
+says under kind.Device attributes place = device_says under attributes place
 says under _ attributes place = Ok Nothing
 
 -- ---- all elements
