@@ -6,3 +6,4 @@ mod ListLemmas
 mod FormLemmas
 mod SignedLemmas
 mod SenderLemmas
+mod ListedLemmas

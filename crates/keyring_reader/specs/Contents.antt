@@ -8,16 +8,18 @@ use Rattle.tag_text.specs.declared.tag.Tag.{Tag}
 use Rattle.tag_text.specs.declared.tag.Tag.TheVariants.{Start, End, Finish}
 use Rattle.tag_text.specs.Attributes.{value_named}
 use Rattle.tag_text.specs.Document.{is_empty}
+use Rattle.key_tables.specs.declared.types.Channel.{Channel}
+use Rattle.key_tables.specs.declared.types.Channel.TheVariants as channel
 use Rattle.key_tables.specs.declared.types.Level.TheVariants.{Auth}
 use Rattle.key_tables.specs.declared.types.Row.{Row}
 use Rattle.key_tables.specs.declared.types.Row.TheVariants as row
-use Rattle.key_tables.specs.Build.{is_repeated}
+use Rattle.key_tables.specs.Rows.{has_key}
 use Rattle.keyring_reader.specs.declared.attribute.Attribute.TheVariants.{Address, Key, IndividualAddress}
 use Rattle.keyring_reader.specs.declared.fault.KeyringFault.{KeyringFault}
 use Rattle.keyring_reader.specs.declared.fault.KeyringFault.TheVariants as fault
 use Rattle.keyring_reader.specs.declared.said.Listing.{Listing}
 use Rattle.keyring_reader.specs.declared.said.Said.{Said}
-use Rattle.keyring_reader.specs.declared.said.Said.TheVariants.{Nothing, KeyOf, Lists}
+use Rattle.keyring_reader.specs.declared.said.Said.TheVariants.{Nothing, GroupKey, ToolKey, Lists}
 use Rattle.keyring_reader.specs.declared.kind.Kind.{Kind}
 use Rattle.keyring_reader.specs.declared.kind.Kind.TheVariants as kind
 use Rattle.keyring_reader.specs.Attributes.{name_of, required}
@@ -78,14 +80,14 @@ group_says under attributes place = do
   text ← required attributes Key place
   group ← group_at place address
   key ← key_at under place text
-  Ok (KeyOf (row.Group group key Auth))
+  Ok (GroupKey group key)
 
 abbrev pub tool_says : Wrapping → List (List ℕ × List ℕ) → ℕ → List ℕ → Result Said KeyringFault
 tool_says under attributes place text = do
   address ← required attributes IndividualAddress place
   device ← device_at place address
   key ← key_at under place text
-  Ok (KeyOf (row.Tool device key))
+  Ok (ToolKey device key)
 
 abbrev pub said_of : {A : Type 0} → Option A → (A → Result Said KeyringFault) → Result Said KeyringFault
 said_of None said = Ok Nothing
@@ -141,12 +143,17 @@ pub record Contents : Type 0 where
   pub rows : List Row
   pub listings : List Listing
 
--- with what the element at a place says; no group and no device has two keys
+-- with the row of a channel's key; no channel has two
+abbrev pub with_key : Contents → ℕ → Channel → Row → Result Contents KeyringFault
+with_key now place channel row =
+    if has_key now.rows channel then Err (fault.Twice place)
+    else Ok (record { rows = now.rows ++ row ∷ []; listings = now.listings })
+
+-- with what the element at a place says
 abbrev pub taken : Contents → ℕ → Said → Result Contents KeyringFault
 taken now place Nothing = Ok now
-taken now place (KeyOf row) =
-    if is_repeated now.rows row then Err (fault.Twice place)
-    else Ok (record { rows = now.rows ++ row ∷ []; listings = now.listings })
+taken now place (GroupKey group key) = with_key now place (channel.Group group) (row.Group group key Auth)
+taken now place (ToolKey device key) = with_key now place (channel.Tool device) (row.Tool device key)
 taken now place (Lists listing) = Ok (record { rows = now.rows; listings = now.listings ++ listing ∷ [] })
 
 -- with what these elements say, up to the first that is refused

@@ -7,3 +7,4 @@ pub mod Kinds
 pub mod Contents
 pub mod Roles
 pub mod Keyring
+pub mod Holding

@@ -38,19 +38,25 @@ lists group listing = listing.group.0 == group.0
 abbrev pub is_listed : List Listing → GroupAddr → Bool
 is_listed listings group = list_any (lists group) listings
 
--- those who may send to the group by any of its listings
+-- the senders of all listings of the group
 abbrev pub senders_to : List Listing → GroupAddr → List IndAddr
-senders_to listings group =
-    ascending (λ device. device.0) (flat_map (λ listing. listing.senders) (filter (lists group) listings))
+senders_to listings group = flat_map (λ listing. listing.senders) (filter (lists group) listings)
+
+-- those who may send to a group that is listed
+abbrev pub listed_senders : List Listing → GroupAddr → Option (List IndAddr)
+listed_senders listings group =
+    if is_listed listings group then Some (ascending (λ device. device.0) (senders_to listings group)) else None
 
 abbrev pub commands : GroupAddr → IndAddr → Row
 commands group sender = row.Role (channel.Group group) (Some sender) Command
 
 -- a listed group is commanded by those who may send to it, any other group by any sender
+abbrev pub roles_by : GroupAddr → Option (List IndAddr) → List Row
+roles_by group (Some senders) = map (commands group) senders
+roles_by group None = row.Role (channel.Group group) None Command ∷ []
+
 abbrev pub group_roles : List Listing → GroupAddr → List Row
-group_roles listings group =
-    if is_listed listings group then map (commands group) (senders_to listings group)
-    else row.Role (channel.Group group) None Command ∷ []
+group_roles listings group = roles_by group (listed_senders listings group)
 
 -- any sender manages a device
 abbrev pub device_role : IndAddr → Row

@@ -5,6 +5,7 @@
 mod attribute;
 mod fault;
 mod form;
+mod gathered;
 mod keys;
 mod kind;
 mod said;

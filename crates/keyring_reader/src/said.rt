@@ -10,7 +10,6 @@ use crate::form::required;
 use crate::keys::Wrapping;
 use crate::kind::{Kind, read_device, read_group};
 use crate::{Attribute, KeyringFault};
-use key_tables::{Level, Row};
 use knx_base::{GroupAddr, IndAddr, NoMemory};
 use std::alloc::Global;
 use std::marker::Model;
@@ -65,7 +64,10 @@ pub(crate) struct Listing {
 #[derive(Drop)]
 pub(crate) enum Said {
     Nothing,
-    KeyOf(Row),
+    /// The key of a group.
+    GroupKey(GroupAddr, [u8; 16]),
+    /// The tool key of a device.
+    ToolKey(IndAddr, [u8; 16]),
     Lists(Listing),
 }
 
@@ -149,11 +151,10 @@ fn group_says(under: &Wrapping, attributes: &Attributes, place: usize) -> Result
 {
     let address = required(attributes, Attribute::Address, place)?;
     let text = required(attributes, Attribute::Key, place)?;
-    Ok(Said::KeyOf(Row::Group {
-        address: group_at(place, address)?,
-        key: key_at(under, place, text)?,
-        level: Level::Auth,
-    }))
+    Ok(Said::GroupKey(
+        group_at(place, address)?,
+        key_at(under, place, text)?,
+    ))
 }
 
 fn tool_says(
@@ -165,10 +166,10 @@ fn tool_says(
     ensures { result ≡ tool_says under.now attributes.now place text.now }
 {
     let address = required(attributes, Attribute::IndividualAddress, place)?;
-    Ok(Said::KeyOf(Row::Tool {
-        device: device_at(place, address)?,
-        key: key_at(under, place, text)?,
-    }))
+    Ok(Said::ToolKey(
+        device_at(place, address)?,
+        key_at(under, place, text)?,
+    ))
 }
 
 fn device_says(under: &Wrapping, attributes: &Attributes, place: usize) -> Result<Said, KeyringFault>
