@@ -7,3 +7,4 @@ mod FormLemmas
 mod SignedLemmas
 mod SenderLemmas
 mod ListedLemmas
+mod HoldingLemmas

@@ -156,12 +156,17 @@ taken now place (GroupKey group key) = with_key now place (channel.Group group) 
 taken now place (ToolKey device key) = with_key now place (channel.Tool device) (row.Tool device key)
 taken now place (Lists listing) = Ok (record { rows = now.rows; listings = now.listings ++ listing ∷ [] })
 
+-- with what the element says
+abbrev pub with_element : Wrapping → Contents → Element → Result Contents KeyringFault
+with_element under now element = do
+  said ← says under element.kind element.attributes element.place
+  taken now element.place said
+
 -- with what these elements say, up to the first that is refused
 abbrev pub contents_from : Wrapping → Contents → List Element → Result Contents KeyringFault
 contents_from under now [] = Ok now
 contents_from under now (element ∷ elements) = do
-  said ← says under element.kind element.attributes element.place
-  next ← taken now element.place said
+  next ← with_element under now element
   contents_from under next elements
 
 unfoldable pub contents_of : Wrapping → List Tag → Result Contents KeyringFault

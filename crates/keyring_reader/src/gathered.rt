@@ -37,6 +37,55 @@ impl Gathered {
             senders: BTreeMap::new(alloc),
         }
     }
+
+    // Adds the key of a group that has none.
+    fn add_group(&mut self, place: usize, group: GroupAddr, key: [u8; 16]) -> Result<(), KeyringFault>
+        ensures added { OnOk result ((c : Contents) → Holds self.old c
+            → (n : Contents) × (with_key c place (Channel.Group group) (Row.Group group key Level.Auth) ≡ Ok n) × Holds self.new n) }
+        ensures fault { IfErr result (λ fault. (c : Contents) → Holds self.old c → IsFault fault (with_key c place (Channel.Group group) (Row.Group group key Level.Auth))) }
+    {
+        if !self.groups.insert(group)? {
+            return Err(KeyringFault::Twice(place));
+        }
+        self.rows.push(Row::Group {
+            address: group,
+            key,
+            level: Level::Auth,
+        })?;
+        Ok(())
+    }
+
+    // Adds the tool key of a device that has none.
+    fn add_device(&mut self, place: usize, device: IndAddr, key: [u8; 16]) -> Result<(), KeyringFault>
+        ensures added { OnOk result ((c : Contents) → Holds self.old c
+            → (n : Contents) × (with_key c place (Channel.Tool device) (Row.Tool device key) ≡ Ok n) × Holds self.new n) }
+        ensures fault { IfErr result (λ fault. (c : Contents) → Holds self.old c → IsFault fault (with_key c place (Channel.Tool device) (Row.Tool device key))) }
+    {
+        if !self.devices.insert(device)? {
+            return Err(KeyringFault::Twice(place));
+        }
+        self.rows.push(Row::Tool { device, key })?;
+        Ok(())
+    }
+
+    fn add_listing(&mut self, alloc: Global, listing: &Listing) -> Result<(), NoMemory>
+        ensures { OnOk result ((c : Contents) → Holds self.old c → Holds self.new (record { rows = c.rows; listings = c.listings ++ listing.now ∷ [] })) }
+    {
+        insert_listing(alloc, &mut self.senders, listing)
+    }
+
+    // Adds what the element at the place says.
+    fn take(&mut self, alloc: Global, place: usize, said: Said) -> Result<(), KeyringFault>
+        ensures taken { OnOk result ((c : Contents) → Holds self.old c → (n : Contents) × (taken c place said ≡ Ok n) × Holds self.new n) }
+        ensures fault { IfErr result (λ fault. (c : Contents) → Holds self.old c → IsFault fault (taken c place said)) }
+    {
+        match said {
+            Said::Nothing => Ok(()),
+            Said::GroupKey(group, key) => self.add_group(place, group, key),
+            Said::ToolKey(device, key) => self.add_device(place, device, key),
+            Said::Lists(listing) => Ok(self.add_listing(alloc, &listing)?),
+        }
+    }
 }
 
 // Adds the devices to the set.
