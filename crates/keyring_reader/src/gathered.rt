@@ -20,10 +20,10 @@ use std::collections::{BTreeMap, BTreeSet};
 /// an interface lists.
 #[derive(Drop)]
 pub(crate) struct Gathered {
-    rows: Vec<Row>,
-    groups: BTreeSet<GroupAddr>,
-    devices: BTreeSet<IndAddr>,
-    senders: BTreeMap<GroupAddr, BTreeSet<IndAddr>>,
+    pub(crate) rows: Vec<Row>,
+    pub(crate) groups: BTreeSet<GroupAddr>,
+    pub(crate) devices: BTreeSet<IndAddr>,
+    pub(crate) senders: BTreeMap<GroupAddr, BTreeSet<IndAddr>>,
 }
 
 impl Gathered {
@@ -74,8 +74,8 @@ impl Gathered {
         insert_listing(alloc, &mut self.senders, listing)
     }
 
-    // Adds what the element at the place says.
-    fn take(&mut self, alloc: Global, place: usize, said: Said) -> Result<(), KeyringFault>
+    /// Adds what the element at the place says.
+    pub(crate) fn take(&mut self, alloc: Global, place: usize, said: Said) -> Result<(), KeyringFault>
         ensures taken { OnOk result ((c : Contents) → Holds self.old c → (n : Contents) × (taken c place said ≡ Ok n) × Holds self.new n) }
         ensures fault { IfErr result (λ fault. (c : Contents) → Holds self.old c → IsFault fault (taken c place said)) }
     {

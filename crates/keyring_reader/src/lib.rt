@@ -3,14 +3,18 @@
 #![tactic(auto)]
 
 mod attribute;
+mod contents;
 mod fault;
 mod form;
 mod gathered;
+mod keyring;
 mod keys;
 mod kind;
+mod roles;
 mod said;
 mod signature;
 mod tags;
 
 pub use attribute::Attribute;
 pub use fault::KeyringFault;
+pub use keyring::{Keyring, read_keyring};
