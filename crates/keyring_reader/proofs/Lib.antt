@@ -8,3 +8,4 @@ mod SignedLemmas
 mod SenderLemmas
 mod ListedLemmas
 mod HoldingLemmas
+mod ContentsLemmas
