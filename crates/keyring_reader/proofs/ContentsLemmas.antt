@@ -12,7 +12,7 @@ use Rattle.keyring_reader.specs.Contents.{◌>>=◌, Element, Contents, innermos
 use Rattle.keyring_reader.specs.Keyring.{IsFault}
 
 -- a fault is that of what follows too
-first_fault : {A B : Type 0} (why : KeyringFault) (found : Result A KeyringFault) (next : A → Result B KeyringFault) → IsFault why found → IsFault why (found >>= next)
+pub first_fault : {A B : Type 0} (why : KeyringFault) (found : Result A KeyringFault) (next : A → Result B KeyringFault) → IsFault why found → IsFault why (found >>= next)
 first_fault fault.NoMemory found next is = tt
 first_fault (fault.Tag why) found next is = ap (λ r. r >>= next) is
 first_fault fault.NotKeyring found next is = ap (λ r. r >>= next) is

@@ -9,3 +9,5 @@ mod SenderLemmas
 mod ListedLemmas
 mod HoldingLemmas
 mod ContentsLemmas
+mod KeyringLemmas
+mod NoTagLemmas

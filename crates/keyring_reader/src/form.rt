@@ -86,11 +86,13 @@ fn root_of(tags: &[Tag]) -> Result<(&Attributes, usize), KeyringFault>
     ensures { MatchResult result (λ root. root_of tags.now ≡ Ok (record { attributes = root.0.now; place = root.1 })) (λ fault. root_of tags.now ≡ Err fault) }
 {
     match tags.first() {
-        Some(Tag::Start {
-            name,
-            attributes,
-            place,
-        }) if name.as_str() == "Keyring" => Ok((attributes, *place)),
+        Some(
+            Tag::Start {
+                name,
+                attributes,
+                place,
+            },
+        ) if name.as_str() == "Keyring" => Ok((attributes, *place)),
         _ => Err(KeyringFault::NotKeyring),
     }
 }

@@ -39,7 +39,12 @@ impl Gathered {
     }
 
     // Adds the key of a group that has none.
-    fn add_group(&mut self, place: usize, group: GroupAddr, key: [u8; 16]) -> Result<(), KeyringFault>
+    fn add_group(
+        &mut self,
+        place: usize,
+        group: GroupAddr,
+        key: [u8; 16],
+    ) -> Result<(), KeyringFault>
         ensures added { OnOk result ((c : Contents) → Holds self.old c
             → (n : Contents) × (with_key c place (Channel.Group group) (Row.Group group key Level.Auth) ≡ Ok n) × Holds self.new n) }
         ensures fault { IfErr result (λ fault. (c : Contents) → Holds self.old c → IsFault fault (with_key c place (Channel.Group group) (Row.Group group key Level.Auth))) }
@@ -56,7 +61,12 @@ impl Gathered {
     }
 
     // Adds the tool key of a device that has none.
-    fn add_device(&mut self, place: usize, device: IndAddr, key: [u8; 16]) -> Result<(), KeyringFault>
+    fn add_device(
+        &mut self,
+        place: usize,
+        device: IndAddr,
+        key: [u8; 16],
+    ) -> Result<(), KeyringFault>
         ensures added { OnOk result ((c : Contents) → Holds self.old c
             → (n : Contents) × (with_key c place (Channel.Tool device) (Row.Tool device key) ≡ Ok n) × Holds self.new n) }
         ensures fault { IfErr result (λ fault. (c : Contents) → Holds self.old c → IsFault fault (with_key c place (Channel.Tool device) (Row.Tool device key))) }
@@ -75,7 +85,12 @@ impl Gathered {
     }
 
     /// Adds what the element at the place says.
-    pub(crate) fn take(&mut self, alloc: Global, place: usize, said: Said) -> Result<(), KeyringFault>
+    pub(crate) fn take(
+        &mut self,
+        alloc: Global,
+        place: usize,
+        said: Said,
+    ) -> Result<(), KeyringFault>
         ensures taken { OnOk result ((c : Contents) → Holds self.old c → (n : Contents) × (taken c place said ≡ Ok n) × Holds self.new n) }
         ensures fault { IfErr result (λ fault. (c : Contents) → Holds self.old c → IsFault fault (taken c place said)) }
     {

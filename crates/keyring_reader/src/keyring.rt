@@ -1,4 +1,4 @@
-ghost use Rattle.std.specs.Prelude.{◌≡◌, Ok, IfOk, IfErr, MatchResult, Err};
+ghost use Rattle.std.specs.Prelude.{◌≡◌, ◌≢◌, Ok, IfOk, IfErr, MatchResult, Err};
 ghost use Rattle.keyring_reader.specs.Keys.{password_key};
 ghost use Rattle.keyring_reader.specs.Keyring.{is_computed, signature_fault, wrapping_of, keyring_under, keyring_of, IsFault};
 
@@ -13,7 +13,7 @@ use aes_modes::Key128;
 use key_tables::Row;
 use std::alloc::Global;
 use std::marker::Model;
-use tag_text::Tag;
+use tag_text::{Tag, TagFault};
 
 /// A keyring whose signature holds. A contract sees it as its rows.
 #[derive(Drop)]
@@ -88,13 +88,10 @@ fn keyring_under(alloc: Global, key: [u8; 16], tags: &[Tag]) -> Result<Keyring, 
 /// element has a text too long to be signed, or the root lacks `Created` or `Signature`; because the signature is another than
 /// the computed one; and then for the first element that lacks an attribute, or whose address, or whose key, is none, or that
 /// has a second key of a group or a device. No key is used before the signature was found to be the computed one.
-pub fn read_keyring(
-    alloc: Global,
-    bytes: &[u8],
-    password: &[u8],
-) -> Result<Keyring, KeyringFault>
+pub fn read_keyring(alloc: Global, bytes: &[u8], password: &[u8]) -> Result<Keyring, KeyringFault>
     ensures rows { IfOk result (λ keyring. keyring_of bytes.now password.now ≡ Ok keyring) }
     ensures fault { IfErr result (λ fault. IsFault fault (keyring_of bytes.now password.now)) }
+    ensures memory { IfErr result (λ fault. fault ≢ KeyringFault.Tag TagFault.NoMemory) }
 {
     let tags = read_tags(alloc, bytes)?;
     keyring_under(alloc, password_key(password), &tags)

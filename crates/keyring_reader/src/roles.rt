@@ -12,16 +12,15 @@ use key_tables::{Channel, Role, Row};
 use knx_base::{GroupAddr, IndAddr, NoMemory};
 use std::collections::{BTreeMap, BTreeSet};
 
-// Any sender commands the group.
-fn push_any(rows: &mut Vec<Row>, group: GroupAddr) -> Result<(), NoMemory>
-    ensures { OnOk result (rows.new.items ≡ rows.old.items ++ Row.Role (Channel.Group group) None Role.Command ∷ []) }
+// The sender, or any, commands the group.
+fn command(group: GroupAddr, sender: Option<IndAddr>) -> Row
+    ensures { result ≡ Row.Role (Channel.Group group) sender Role.Command }
 {
-    rows.push(Row::Role {
+    Row::Role {
         channel: Channel::Group(group),
-        sender: None,
+        sender,
         role: Role::Command,
-    })?;
-    Ok(())
+    }
 }
 
 // Each of the senders commands the group.
@@ -33,11 +32,7 @@ fn push_commands(
     ensures { OnOk result (rows.new.items ≡ rows.old.items ++ map (commands group) senders.now.keys) }
 {
     'senders: for sender in senders {
-        rows.push(Row::Role {
-            channel: Channel::Group(group),
-            sender: Some(*sender),
-            role: Role::Command,
-        })?;
+        rows.push(command(group, Some(*sender)))?;
     }
     Ok(())
 }
@@ -53,7 +48,7 @@ fn push_groups(
     'groups: for group in groups {
         match senders.get(group) {
             Some(senders) => push_commands(rows, *group, senders)?,
-            None => push_any(rows, *group)?,
+            None => rows.push(command(*group, None))?,
         }
     }
     Ok(())

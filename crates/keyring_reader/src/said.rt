@@ -151,10 +151,7 @@ fn group_says(under: &Wrapping, attributes: &Attributes, place: usize) -> Result
 {
     let address = required(attributes, Attribute::Address, place)?;
     let text = required(attributes, Attribute::Key, place)?;
-    Ok(Said::GroupKey(
-        group_at(place, address)?,
-        key_at(under, place, text)?,
-    ))
+    Ok(Said::GroupKey(group_at(place, address)?, key_at(under, place, text)?))
 }
 
 fn tool_says(
@@ -166,13 +163,14 @@ fn tool_says(
     ensures { result ≡ tool_says under.now attributes.now place text.now }
 {
     let address = required(attributes, Attribute::IndividualAddress, place)?;
-    Ok(Said::ToolKey(
-        device_at(place, address)?,
-        key_at(under, place, text)?,
-    ))
+    Ok(Said::ToolKey(device_at(place, address)?, key_at(under, place, text)?))
 }
 
-fn device_says(under: &Wrapping, attributes: &Attributes, place: usize) -> Result<Said, KeyringFault>
+fn device_says(
+    under: &Wrapping,
+    attributes: &Attributes,
+    place: usize,
+) -> Result<Said, KeyringFault>
     ensures { result ≡ device_says under.now attributes.now place }
 {
     match attributes.get("ToolKey") {

@@ -65,7 +65,9 @@ fn sign_tag(alloc: Global, hasher: &mut Sha256, tag: &Tag) -> Result<(), NoMemor
 {
     match tag {
         Tag::Start {
-            name, attributes, ..
+            name,
+            attributes,
+            ..
         } => {
             let attributes = by_name(alloc, attributes)?;
             sign_start(hasher, name.as_str(), &attributes);
@@ -86,7 +88,11 @@ fn sign_tags(alloc: Global, hasher: &mut Sha256, tags: &[Tag]) -> Result<(), NoM
 }
 
 /// The signature that these tags have under the key.
-pub(crate) fn signature_of(alloc: Global, tags: &[Tag], key: &[u8; 16]) -> Result<[u8; 16], NoMemory>
+pub(crate) fn signature_of(
+    alloc: Global,
+    tags: &[Tag],
+    key: &[u8; 16],
+) -> Result<[u8; 16], NoMemory>
     ensures { IfOk result (λ signature. signature ≡ signature_of tags.now key.now) }
 {
     let mut hasher = Sha256::new();

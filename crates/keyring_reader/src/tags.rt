@@ -1,4 +1,4 @@
-ghost use Rattle.std.specs.Prelude.{◌≡◌, IfOk, IfErr, Ok};
+ghost use Rattle.std.specs.Prelude.{◌≡◌, ◌≢◌, IfOk, IfErr, Ok};
 ghost use Rattle.keyring_reader.specs.Keyring.{tag_fault, tags_of, IsFault};
 
 use crate::KeyringFault;
@@ -7,7 +7,8 @@ use tag_text::{Tag, TagFault, TagReader};
 
 // A fault of memory is the keyring's own.
 fn tag_fault(fault: TagFault) -> KeyringFault
-    ensures { result ≡ tag_fault fault }
+    ensures fault { result ≡ tag_fault fault }
+    ensures memory { result ≢ KeyringFault.Tag TagFault.NoMemory }
 {
     match fault {
         TagFault::NoMemory => KeyringFault::NoMemory,
@@ -19,6 +20,7 @@ fn tag_fault(fault: TagFault) -> KeyringFault
 pub(crate) fn read_tags(alloc: Global, bytes: &[u8]) -> Result<Vec<Tag>, KeyringFault>
     ensures tags { IfOk result (λ tags. tags_of bytes.now ≡ Ok tags.items) }
     ensures fault { IfErr result (λ fault. IsFault fault (tags_of bytes.now)) }
+    ensures memory { IfErr result (λ fault. fault ≢ KeyringFault.Tag TagFault.NoMemory) }
 {
     let mut reader = TagReader::new(bytes);
     let mut tags = Vec::new(alloc);
