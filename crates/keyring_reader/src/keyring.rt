@@ -71,7 +71,12 @@ fn wrapping_of(
     }
 }
 
-fn keyring_under(alloc: Global, key: [u8; 16], tags: &[Tag]) -> Result<Keyring, KeyringFault>
+/// What the tags of a document say to the holder of the password with this key.
+pub(crate) fn keyring_under(
+    alloc: Global,
+    key: [u8; 16],
+    tags: &[Tag],
+) -> Result<Keyring, KeyringFault>
     ensures rows { IfOk result (λ keyring. keyring_under key tags.now ≡ Ok keyring) }
     ensures fault { IfErr result (λ fault. IsFault fault (keyring_under key tags.now)) }
 {

@@ -14,6 +14,8 @@ mod roles;
 mod said;
 mod signature;
 mod tags;
+#[cfg(test)]
+mod tests;
 
 pub use attribute::Attribute;
 pub use fault::KeyringFault;
