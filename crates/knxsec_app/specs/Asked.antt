@@ -1,8 +1,9 @@
 -- What the program's own command asks for.
 use Rattle.knxsec_app.specs.declared.words.Command.{Command}
 use Rattle.knxsec_app.specs.declared.words.Command.TheVariants as command
-use Rattle.knxsec_app.specs.Words.{Asked, Open, Audit}
+use Rattle.knxsec_app.specs.Words.{Asked, Open, Audit, AuditKeyring}
 
 abbrev pub asked_of : Command → Asked
 asked_of (command.Open key frame) = Open key frame
 asked_of (command.Audit tables frames) = Audit tables.now frames.now
+asked_of (command.AuditKeyring names) = AuditKeyring names.keyring.now names.password.now names.tables.now names.frames.now

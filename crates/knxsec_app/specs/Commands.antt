@@ -6,7 +6,7 @@ use Rattle.judge_rules.specs.declared.verdict.Verdict.{Verdict}
 use Rattle.judge_rules.specs.Text.{verdict_text}
 use Rattle.knxsec_app.specs.declared.status.Status.{Status}
 use Rattle.knxsec_app.specs.declared.status.Status.TheVariants.{Done, Alarm, Usage, Refused}
-use Rattle.knxsec_app.specs.Words.{Asked, Open, Audit, command_of}
+use Rattle.knxsec_app.specs.Words.{Asked, Open, Audit, AuditKeyring, command_of}
 use Rattle.knxsec_app.specs.Answer.{Answer}
 use Rattle.knxsec_app.specs.Opening.{refusal_of, apdu_of}
 use Rattle.knxsec_app.specs.Auditing.{under_tables, audit_answer}
@@ -30,6 +30,8 @@ abbrev pub answer_to : Option Asked → List File → Answer
 answer_to None files = record { report = usage_line; status = Usage }
 answer_to (Some (Open key frame)) files = opening_answer (refusal_of key frame) (apdu_of key frame)
 answer_to (Some (Audit tables frames)) files = audit_answer (octets_in files tables) (octets_in files frames)
+answer_to (Some (AuditKeyring keyring password tables frames)) files =
+    keyring_answer (octets_in files keyring) (octets_in files password) (octets_in files tables) (octets_in files frames)
 
 -- the answer to the words, where these are the files
 abbrev pub answer_of : List (List ℕ) → List File → Answer
@@ -40,36 +42,61 @@ abbrev pub NamesNoFile : Option Asked → Type 0
 NamesNoFile None = Unit {0}
 NamesNoFile (Some (Open key frame)) = Unit {0}
 NamesNoFile (Some (Audit tables frames)) = ⊥
+NamesNoFile (Some (AuditKeyring keyring password tables frames)) = ⊥
 
 -- each file that the command names is one of these
 abbrev pub AreThere : Option Asked → List File → Type 0
 AreThere None files = Unit {0}
 AreThere (Some (Open key frame)) files = Unit {0}
 AreThere (Some (Audit tables frames)) files = IsThere files tables × IsThere files frames
+AreThere (Some (AuditKeyring keyring password tables frames)) files =
+    IsThere files keyring × IsThere files password × IsThere files tables × IsThere files frames
 
 -- these are the files, as far as the command names any
 abbrev pub AreFiles : Option Asked → Seen → List File → Type 0
 AreFiles None seen files = Unit {0}
 AreFiles (Some (Open key frame)) seen files = Unit {0}
 AreFiles (Some (Audit tables frames)) seen files = seen.told ≡ Some files
+AreFiles (Some (AuditKeyring keyring password tables frames)) seen files = seen.told ≡ Some files
+
+-- the file of this name was read to its end
+abbrev pub IsRead : List File → Seen → List ℕ → Type 0
+IsRead files seen name = seen.places name ≡ length (octets_in files name)
 
 -- each file that the command names was read to its end
 abbrev pub AreRead : Option Asked → List File → Seen → Type 0
 AreRead None files seen = Unit {0}
 AreRead (Some (Open key frame)) files seen = Unit {0}
-AreRead (Some (Audit tables frames)) files seen =
-    (seen.places tables ≡ length (octets_in files tables)) × (seen.places frames ≡ length (octets_in files frames))
+AreRead (Some (Audit tables frames)) files seen = IsRead files seen tables × IsRead files seen frames
+AreRead (Some (AuditKeyring keyring password tables frames)) files seen =
+    IsRead files seen keyring × IsRead files seen password × IsRead files seen tables × IsRead files seen frames
 
--- the tables with these octets are refused
-abbrev pub RefusesTables : List ℕ → Type 0
-RefusesTables octets = (under_tables octets (λ rows. record { report = []; status = Done })).status ≡ Refused
+-- this is an answer of a refusal
+abbrev pub IsRefusal : Answer → Type 0
+IsRefusal answer = answer.status ≡ Refused
 
--- no file after a refused one was opened: its place is as before
+-- what the files say of the frames that come after them: nothing, since they are not opened yet
+abbrev pub unasked : Answer
+unasked = record { report = []; status = Done }
+
+-- the tables with these octets are refused, or there are too many rows with those of a keyring, where there is one
+abbrev pub RefusesTables : Option (List Row) → List ℕ → Type 0
+RefusesTables under octets = IsRefusal (under_tables octets (joined_answer under no_records))
+
+-- the keyring with these octets is refused under the password
+abbrev pub RefusesKeyring : List ℕ → List ℕ → Type 0
+RefusesKeyring keyring password = IsRefusal (unless_long (codes "password") most_password password (where_keyring (λ rows. unasked) (keyring_of keyring (password_of password))))
+
+-- no file but these was opened, so that its place is as before
+abbrev pub OnlyOpened : List (List ℕ) → Seen → Seen → Type 0
+OnlyOpened names old new = (name : List ℕ) → IsNone (find (pointwise nat_eq name) names) → new.places name ≡ old.places name
+
+-- After a refusal no further file was opened.
 abbrev pub AreUnopened : Option Asked → List File → Seen → Seen → Type 0
 AreUnopened None files old new = Unit {0}
 AreUnopened (Some (Open key frame)) files old new = Unit {0}
-AreUnopened (Some (Audit tables frames)) files old new =
-    RefusesTables (octets_in files tables) → frames ≢ tables → new.places frames ≡ old.places frames
+AreUnopened (Some (Audit tables frames)) files old new = RefusesTables None (octets_in files tables) → OnlyOpened (tables ∷ []) old new
+AreUnopened (Some (AuditKeyring keyring password tables frames)) files old new = Unit {0}
 
 -- the report was written to its end after all files were read
 abbrev pub IsWhole : Status → Type 0

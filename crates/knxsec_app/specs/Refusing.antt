@@ -1,9 +1,15 @@
 -- The line that tells which file is refused, and why.
-use Rattle.std.specs.Prelude.{◌≡◌, ℕ, List, [], ◌∷◌, ◌++◌, codes, Option}
+use Rattle.std.specs.Prelude.{◌≡◌, ℕ, List, [], ◌∷◌, ◌++◌, codes, Option, Some, None}
 use Rattle.std.specs.Fmt.{decimal}
 use Rattle.knx_base.specs.Cause.{cause_word}
 use Rattle.key_tables.specs.declared.faults.TablesFault.{TablesFault}
 use Rattle.key_tables.specs.declared.faults.TablesFault.TheVariants as tables
+use Rattle.tag_text.specs.declared.fault.TagFault.{TagFault}
+use Rattle.tag_text.specs.declared.fault.TagFault.TheVariants as tag
+use Rattle.keyring_reader.specs.Attributes.{name_of}
+use Rattle.keyring_reader.specs.declared.fault.KeyringFault.{KeyringFault}
+use Rattle.keyring_reader.specs.declared.fault.KeyringFault.TheVariants as keyring
+use Rattle.hex.specs.Hex.{encode_lower}
 use Rattle.frame_file.specs.declared.fault.RecordFault.{RecordFault}
 use Rattle.frame_file.specs.declared.fault.RecordFault.TheVariants as record_
 use Rattle.knx_base.specs.Sink.{AppendsPrefix}
@@ -32,6 +38,31 @@ frames_reason (record_.LongLine number) = at_line number (codes "long")
 frames_reason (record_.TooMany number) = at_line number (codes "many")
 frames_reason record_.ReadFault = []
 frames_reason record_.NoMemory = []
+
+abbrev pub at_place : ℕ → List ℕ → List ℕ
+at_place place word = codes " at " ++ decimal place ++ 32 ∷ [] ++ word
+
+abbrev pub document_reason : TagFault → List ℕ
+document_reason (tag.Bad place) = at_place place (codes "bad")
+document_reason (tag.Utf8 place) = at_place place (codes "utf8")
+document_reason (tag.Deep place) = at_place place (codes "deep")
+document_reason tag.NoMemory = []
+
+-- a signature in hexadecimal, or a dash where the text is none
+abbrev pub stored_text : Option (List ℕ) → List ℕ
+stored_text (Some stored) = encode_lower stored
+stored_text None = codes "-"
+
+abbrev pub keyring_reason : KeyringFault → List ℕ
+keyring_reason (keyring.Tag fault) = document_reason fault
+keyring_reason keyring.NotKeyring = codes " root"
+keyring_reason (keyring.Missing attribute place) = at_place place (codes "missing " ++ name_of attribute)
+keyring_reason (keyring.LongText place) = at_place place (codes "long-text")
+keyring_reason (keyring.Signature stored computed) = codes " signature " ++ stored_text stored ++ 32 ∷ [] ++ encode_lower computed
+keyring_reason (keyring.Key place) = at_place place (codes "key")
+keyring_reason (keyring.Address place) = at_place place (codes "address")
+keyring_reason (keyring.Twice place) = at_place place (codes "twice")
+keyring_reason keyring.NoMemory = []
 
 -- What is answered where a text of tables has this fault: its refusal, or that memory was wanting.
 abbrev pub EndsTables : TablesFault → Status → Option (List ℕ) → Option (List ℕ) → Type 0

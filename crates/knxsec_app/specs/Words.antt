@@ -9,6 +9,8 @@ pub data Asked : Type 0 where
   Open : (key frame : List ℕ) → Asked
   -- judge the records of one file under the tables of another
   Audit : (tables frames : List ℕ) → Asked
+  -- the same under the rows of a keyring too, which a password opens
+  AuditKeyring : (keyring password tables frames : List ℕ) → Asked
 
 -- the octets that a word writes in hexadecimal, where they are so many
 abbrev pub octets_between : ℕ → ℕ → List ℕ → Option (List ℕ)
@@ -27,4 +29,6 @@ command_of (verb ∷ first ∷ second ∷ []) =
     if pointwise nat_eq verb (codes "open") then opening (octets_between 16 16 first) (octets_between 1 1024 second)
     else if pointwise nat_eq verb (codes "audit") then Some (Audit first second)
     else None
+command_of (verb ∷ keyring ∷ password ∷ tables ∷ frames ∷ []) =
+    if pointwise nat_eq verb (codes "audit-keyring") then Some (AuditKeyring keyring password tables frames) else None
 command_of _ = None

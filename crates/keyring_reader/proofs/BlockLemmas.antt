@@ -1,0 +1,116 @@
+-- The search for a block finds the one that passes.
+use Rattle.std.proofs.Common.{◌≡◌, ℕ, zero, suc, ◌+◌, ◌*◌, ◌/◌, ◌%◌, ◌^◌, ◌<◌, ◌≤◌, ◌⊎◌, inl, inr, Bool, true, false, List, [], ◌∷◌, length, get_or, Option, Some, None, refl, sym, ap, subst, ◌∙◌, arith, add-one}
+use Rattle.std.proofs.Math.Nat.{pow-succ'}
+use Rattle.std.specs.Option.{option_or}
+use Rattle.std.proofs.lemmas.Bool.{cases_lt}
+use Rattle.aes_modes.specs.Cipher.{AreOctets, IsBlock}
+use Rattle.keyring_reader.specs.Blocks.{octets_of, block_of, where_true, first_below, first_block}
+
+-- the number of a list of octets
+number_of : List ℕ → ℕ
+number_of [] = 0
+number_of (x ∷ xs) = x + 256 * number_of xs
+
+more_digits : (x n most more : ℕ) → x < 256 → n < most → more ≡ 256 * most → x + 256 * n < more
+more_digits x n most more first rest is = omega (arith, first, rest, is)
+
+number_of-lt : (xs : List ℕ) → AreOctets xs → number_of xs < 256 ^ length xs
+unfolding number_of
+number_of-lt [] octets = omega arith
+number_of-lt (x ∷ xs) octets =
+    more_digits x (number_of xs) (256 ^ length xs) (256 ^ length (x ∷ xs)) (octets 0) (number_of-lt xs (λ i. octets (suc i))) (pow-succ' 256 (length xs))
+
+octets_of-number : (xs : List ℕ) → AreOctets xs → octets_of (length xs) (number_of xs) ≡ xs
+unfolding number_of octets_of
+octets_of-number [] octets = refl
+octets_of-number (x ∷ xs) octets =
+    let first : x < 256 = octets 0 in
+    let low : (x + 256 * number_of xs) % 256 ≡ x = omega (arith, first) in
+    let high : (x + 256 * number_of xs) / 256 ≡ number_of xs = omega (arith, first) in
+    ap (λ (o : ℕ). o ∷ octets_of (length xs) ((x + 256 * number_of xs) / 256)) low
+    ∙ ap (λ (n : ℕ). x ∷ octets_of (length xs) n) high
+    ∙ ap (λ (rest : List ℕ). x ∷ rest) (octets_of-number xs (λ i. octets (suc i)))
+
+block_of-number : (b : List ℕ) → IsBlock b → block_of (number_of b) ≡ b
+block_of-number b is = ap (λ (count : ℕ). octets_of count (number_of b)) (sym is.length) ∙ octets_of-number b is.octets
+
+number_of_block : (b : List ℕ) → IsBlock b → number_of b < 256 ^ 16
+number_of_block b is = subst (λ (count : ℕ). number_of b < 256 ^ count) is.length (number_of-lt b is.octets)
+
+none_below : (test : List ℕ → Bool) (n : ℕ) → ((k : ℕ) → k < n → test (block_of k) ≡ false) → first_below test n ≡ None
+unfolding first_below
+none_below test zero fails = refl
+none_below test (suc n) fails =
+    ap (λ (before : Option (List ℕ)). option_or before (where_true (test (block_of n)) (block_of n)))
+    (none_below test n (λ k below. fails k (omega (arith, below))))
+    ∙ ap (λ (b : Bool). where_true b (block_of n)) (fails n (omega arith))
+
+-- each block that passes is this one
+abbrev IsOnly : (List ℕ → Bool) → ℕ → List ℕ → Type 0
+IsOnly test n b = (k : ℕ) → k < n → test (block_of k) ≡ true → block_of k ≡ b
+
+here : (test : Bool) (block b : List ℕ) → (test ≡ true → block ≡ b) → (where_true test block ≡ None) ⊎ (where_true test block ≡ Some b)
+here true block b only = inr (ap (λ (x : List ℕ). Some x) (only refl))
+here false block b only = inl refl
+
+joined : (before after : Option (List ℕ)) (b : List ℕ) → (before ≡ None) ⊎ (before ≡ Some b) → (after ≡ None) ⊎ (after ≡ Some b)
+    → (option_or before after ≡ None) ⊎ (option_or before after ≡ Some b)
+joined before after b (inr is) later = inr (ap (λ (o : Option (List ℕ)). option_or o after) is)
+joined before after b (inl none) (inl is) = inl (ap (λ (o : Option (List ℕ)). option_or o after) none ∙ is)
+joined before after b (inl none) (inr is) = inr (ap (λ (o : Option (List ℕ)). option_or o after) none ∙ is)
+
+only_below : (test : List ℕ → Bool) (n : ℕ) (b : List ℕ) → IsOnly test n b → (first_below test n ≡ None) ⊎ (first_below test n ≡ Some b)
+unfolding first_below
+only_below test zero b only = inl refl
+only_below test (suc n) b only =
+    joined (first_below test n) (where_true (test (block_of n)) (block_of n)) b
+    (only_below test n b (λ k below. only k (omega (arith, below))))
+    (here (test (block_of n)) (block_of n) b (only n (omega arith)))
+
+last_found : (before : Option (List ℕ)) (test : Bool) (block b : List ℕ) → (before ≡ None) ⊎ (before ≡ Some b) → test ≡ true → block ≡ b
+    → option_or before (where_true test block) ≡ Some b
+last_found before test block b (inr is) passes same = ap (λ (o : Option (List ℕ)). option_or o (where_true test block)) is
+last_found before test block b (inl none) passes same =
+    ap (λ (o : Option (List ℕ)). option_or o (where_true test block)) none
+    ∙ ap (λ (t : Bool). where_true t block) passes ∙ ap (λ (x : List ℕ). Some x) same
+
+found_below : (test : List ℕ → Bool) (n m : ℕ) (b : List ℕ) → m < n → test (block_of m) ≡ true → IsOnly test n b → first_below test n ≡ Some b
+unfolding first_below
+found_below test zero m b below passes only = absurd (omega (arith, below))
+found_below test (suc n) m b below passes only = elim (cases_lt m n) [
+  | inl less ↦
+      ap (λ (before : Option (List ℕ)). option_or before (where_true (test (block_of n)) (block_of n)))
+      (found_below test n m b less passes (λ k small. only k (omega (arith, small))))
+  | inr last ↦
+      let same : m ≡ n = omega (arith, below, last) in
+      let passes_n : test (block_of n) ≡ true = ap (λ (k : ℕ). test (block_of k)) (sym same) ∙ passes in
+      last_found (first_below test n) (test (block_of n)) (block_of n) b
+      (only_below test n b (λ k small. only k (omega (arith, small)))) passes_n (only n (omega arith) passes_n)
+]
+
+block_of-octets : (count n : ℕ) → AreOctets (octets_of count n)
+unfolding octets_of
+block_of-octets zero n i = omega arith
+block_of-octets (suc count) n zero = omega arith
+block_of-octets (suc count) n (suc i) = block_of-octets count (n / 256) i
+
+block_of-length : (count n : ℕ) → length (octets_of count n) ≡ count
+unfolding octets_of
+block_of-length zero n = refl
+block_of-length (suc count) n = ap (λ (k : ℕ). suc k) (block_of-length count (n / 256))
+
+is_block : (n : ℕ) → IsBlock (block_of n)
+is_block n = record { length = block_of-length 16 n; octets = block_of-octets 16 n }
+
+-- the one block that passes is found
+pub found_block : (test : List ℕ → Bool) (b : List ℕ) → IsBlock b → test b ≡ true
+    → ((other : List ℕ) → IsBlock other → test other ≡ true → other ≡ b) → first_block test ≡ Some b
+unfolding first_block
+found_block test b is passes only =
+    found_below test (256 ^ 16) (number_of b) b (number_of_block b is) (ap test (block_of-number b is) ∙ passes)
+    (λ k below. only (block_of k) (is_block k))
+
+-- where no block passes, none is found
+pub no_block : (test : List ℕ → Bool) → ((b : List ℕ) → IsBlock b → test b ≡ false) → first_block test ≡ None
+unfolding first_block
+no_block test fails = none_below test (256 ^ 16) (λ k below. fails (block_of k) (is_block k))

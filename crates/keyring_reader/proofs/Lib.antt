@@ -1,0 +1,13 @@
+mod FaultLemmas
+mod BlockLemmas
+mod StoredLemmas
+mod TagLemmas
+mod ListLemmas
+mod FormLemmas
+mod SignedLemmas
+mod SenderLemmas
+mod ListedLemmas
+mod HoldingLemmas
+mod ContentsLemmas
+mod KeyringLemmas
+mod NoTagLemmas

@@ -1,0 +1,10 @@
+pub mod Attributes
+pub mod Blocks
+pub mod Keys
+pub mod Texts
+pub mod Signed
+pub mod Kinds
+pub mod Contents
+pub mod Roles
+pub mod Keyring
+pub mod Holding

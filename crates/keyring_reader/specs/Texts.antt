@@ -1,0 +1,6 @@
+-- What pairs of borrowed texts show.
+use Rattle.std.specs.Prelude.{ℕ, List}
+use denote.Ref.{Bor}
+
+abbrev pub deref_texts : Bor (List ℕ) × Bor (List ℕ) → List ℕ × List ℕ
+deref_texts pair = (pair.0.now, pair.1.now)
