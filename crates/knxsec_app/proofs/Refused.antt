@@ -1,11 +1,13 @@
 -- From the line of a refusal to the answer.
-use Rattle.std.proofs.Common.{◌≡◌, ℕ, List, [], ◌++◌, Option, Some, None, Result, Ok, Err, refl, sym, ap, subst}
-use Rattle.std.specs.Io.KnownBytes.{append_known}
+use Rattle.std.proofs.Common.{◌≡◌, ◌≤◌, ℕ, List, [], length, arith, Option, Result, Err, refl, sym, subst}
 use Rattle.knx_base.proofs.Printing.{append_known-nil}
 use Rattle.key_tables.specs.declared.faults.TablesFault.{TablesFault}
 use Rattle.key_tables.specs.declared.faults.TablesFault.TheVariants as tables
 use Rattle.key_tables.specs.declared.types.Row.{Row}
 use Rattle.key_tables.specs.Text.{IsTextFault}
+use Rattle.keyring_reader.specs.declared.attribute.Attribute.{Attribute}
+use Rattle.keyring_reader.specs.declared.attribute.Attribute.TheVariants.{Created, Signature, Address, Key, IndividualAddress}
+use Rattle.keyring_reader.specs.Attributes.{name_of}
 use Rattle.knxsec_app.specs.declared.status.Status.{Status}
 use Rattle.knxsec_app.specs.declared.status.Status.TheVariants as status
 use Rattle.knxsec_app.specs.Answer.{Answer, Answers, after}
@@ -36,3 +38,10 @@ text_refused answer (tables.Line number cause) found ended old new is said = by_
 text_refused answer (tables.Twice number) found ended old new is said = by_fault answer (tables.Twice number) found ended old new is said
 text_refused answer (tables.TooMany number) found ended old new is said = by_fault answer (tables.TooMany number) found ended old new is said
 text_refused answer tables.NoMemory found ended old new is said = nothing_written (where_rows answer found) ended old new said.0 said.1
+
+pub name_short : (attribute : Attribute) → length (name_of attribute) ≤ 20
+name_short Created = grind (arith)
+name_short Signature = grind (arith)
+name_short Address = grind (arith)
+name_short Key = grind (arith)
+name_short IndividualAddress = grind (arith)

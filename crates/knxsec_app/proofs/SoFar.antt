@@ -1,10 +1,9 @@
 -- The loop over the records: what was printed, what waits, and the answer to what is left are the whole answer.
-use Rattle.std.proofs.Common.{◌≡◌, ℕ, ◌+◌, List, [], ◌∷◌, ◌++◌, length, drop, Option, Some, None, Result, Ok, Err, refl, sym, ap, subst, ◌∙◌, append_assoc, ℤ, ◌-◌, ◌≤◌, ◌⊎◌, inl, inr, arith}
+use Rattle.std.proofs.Common.{◌≡◌, ℕ, List, [], ◌∷◌, ◌++◌, length, drop, Option, Some, None, Result, Ok, Err, refl, sym, ap, subst, ◌∙◌, append_assoc, ℤ, ◌-◌, ◌⊎◌, inl, inr, arith}
 use Rattle.std.specs.Prelude.{codes}
 use Rattle.std.proofs.lemmas.List.{length-drop}
 use Rattle.std.proofs.lemmas.Option.{none-some}
 use Rattle.std.specs.Io.KnownBytes.{append_known}
-use Rattle.std.specs.Str.Lines.{lines}
 use Rattle.knx_base.specs.Files.{Seen}
 use Rattle.knx_base.specs.Reading.{CurrentHas, WhereTold, GoesOn}
 use Rattle.knx_base.specs.Sink.{AppendsPrefix}

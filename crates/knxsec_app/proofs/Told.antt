@@ -1,5 +1,5 @@
 -- Files that are told, and the tables among them.
-use Rattle.std.proofs.Common.{◌≡◌, ◌≢◌, ℕ, ◌≤◌, ◌<◌, Bool, true, false, List, [], length, Option, Some, None, IsSome, Result, Ok, Err, nat_eq, nat_lt, arith, Vec, Global, refl, sym, ap, subst, ◌∙◌}
+use Rattle.std.proofs.Common.{◌≡◌, ◌≢◌, ℕ, ◌≤◌, ◌<◌, Bool, true, false, List, [], length, Option, Some, None, IsSome, nat_eq, nat_lt, arith, Vec, Global, refl, sym, ap, subst, ◌∙◌}
 use Rattle.std.specs.Prelude.{if◌then◌else◌, unwrap_or, codes}
 use Rattle.std.specs.Option.{IsSomeAnd, option_map}
 use Rattle.std.specs.Cmp.Lexicographic.{pointwise}
@@ -8,13 +8,9 @@ use Rattle.std.proofs.lemmas.Bool.Decides.{nat_tests}
 use Rattle.std.proofs.lemmas.Slice.Eq.{bytes_eq-Decides}
 use Rattle.knx_base.specs.Files.{File, Seen, Holds, IsThere, octets_named}
 use Rattle.knx_base.specs.Reading.{ReadsWhole}
-use Rattle.key_tables.specs.declared.faults.TablesFault.{TablesFault}
-use Rattle.key_tables.specs.declared.types.Row.{Row}
-use Rattle.key_tables.specs.Text.{tables_of}
 use Rattle.knxsec_app.specs.Answer.{Answer}
-use Rattle.knxsec_app.specs.Auditing.{most_tables, under_tables, where_rows}
-use Rattle.knxsec_app.specs.declared.status.Status.TheVariants.{Done, Refused}
-use Rattle.knxsec_app.specs.Commands.{octets_in, RefusesTables}
+use Rattle.knxsec_app.specs.Auditing.{unless_long}
+use Rattle.knxsec_app.specs.Commands.{octets_in, IsRead, Stays}
 use Rattle.knxsec_app.specs.Refusing.{refused}
 
 some_of : (found : Option (List ℕ)) → IsSome found → found ≡ Some (unwrap_or found [])
@@ -32,15 +28,16 @@ not_over most found fits = grind (arith, nat_tests, fits)
 is_over : (most found : ℕ) → most < found → nat_lt most found ≡ true
 is_over most found more = grind (arith, nat_tests, more)
 
--- tables within their limit
-pub under_short : (octets : List ℕ) (answer : List Row → Answer) → length octets ≤ most_tables → under_tables octets answer ≡ where_rows answer (tables_of octets)
-under_short octets answer fits =
-    ap (λ over. if over then refused (codes "tables") (codes " long") else where_rows answer (tables_of octets)) (not_over most_tables (length octets) fits)
+pub not_both : (most found : ℕ) → found ≤ most → most < found → ⊥
+not_both most found fits more = omega (arith, fits, more)
 
--- tables past it
-pub under_long : (octets : List ℕ) (answer : List Row → Answer) → most_tables < length octets → under_tables octets answer ≡ refused (codes "tables") (codes " long")
-under_long octets answer more =
-    ap (λ over. if over then refused (codes "tables") (codes " long") else where_rows answer (tables_of octets)) (is_over most_tables (length octets) more)
+-- a file within its limit
+pub within_limit : (file octets : List ℕ) (most : ℕ) (answer : Answer) → length octets ≤ most → unless_long file most octets answer ≡ answer
+within_limit file octets most answer fits = ap (λ over. if over then refused file (codes " long") else answer) (not_over most (length octets) fits)
+
+-- a file past it
+pub past_limit : (file octets : List ℕ) (most : ℕ) (answer : Answer) → most < length octets → unless_long file most octets answer ≡ refused file (codes " long")
+past_limit file octets most answer more = ap (λ over. if over then refused file (codes " long") else answer) (is_over most (length octets) more)
 
 -- it is the one file or it is not
 pub either_name : (one other : List ℕ) (P : Type 0) → (one ≡ other → P) → (one ≢ other → P) → P
@@ -49,17 +46,19 @@ either_name one other P same differ = by_test (pointwise nat_eq one other) refl 
   by_test true is = same ((bytes_eq-Decides one other).0 is)
   by_test false is = differ (λ equal. false≢true (sym is ∙ (bytes_eq-Decides one other).1 equal))
 
--- where the tables with these octets are refused for what they say
-pub refused_for : (octets : List ℕ) → length octets ≤ most_tables → RefusesTables octets → (fault : TablesFault) × (tables_of octets ≡ Err fault)
-refused_for octets fits refuses = by_rows (tables_of octets) refl where
-  none_answered : List Row → Answer
-  none_answered rows = record { report = []; status = Done }
+-- a file stays read where only those of other names were read on
+pub still_read : (told : List File) (mid new : Seen) (name one other : List ℕ) → IsRead told mid name → IsRead told new one → IsRead told new other
+    → (name ≢ one → name ≢ other → Stays mid new name) → IsRead told new name
+still_read told mid new name one other read read_one read_other stays =
+    either_name name one (IsRead told new name) (λ same. subst (IsRead told new) (sym same) read_one)
+    (λ not_one. either_name name other (IsRead told new name) (λ same. subst (IsRead told new) (sym same) read_other)
+    (λ not_other. stays not_one not_other ∙ read))
 
-  by_rows : (found : Result (List Row) TablesFault) → tables_of octets ≡ found → (fault : TablesFault) × (tables_of octets ≡ Err fault)
-  by_rows (Err fault) is = (fault, is)
-  by_rows (Ok rows) is =
-      let done : Done ≡ Refused = sym (ap (λ found. (where_rows none_answered found).status) is) ∙ sym (ap (λ answer. answer.status) (under_short octets none_answered fits)) ∙ refuses in
-      absurd cc
+pub still_read_of_three : (told : List File) (mid new : Seen) (name one other third : List ℕ) → IsRead told mid name → IsRead told new one → IsRead told new other
+    → IsRead told new third → (name ≢ one → name ≢ other → name ≢ third → Stays mid new name) → IsRead told new name
+still_read_of_three told mid new name one other third read read_one read_other read_third stays =
+    either_name name third (IsRead told new name) (λ same. subst (IsRead told new) (sym same) read_third)
+    (λ not_third. still_read told mid new name one other read read_one read_other (λ not_one not_other. stays not_one not_other not_third))
 
 -- the whole of a file that was found
 pub whole_text : (most place : ℕ) (octets : List ℕ) (found : Option (Vec ℕ Global)) (text : Vec ℕ Global) → found ≡ Some text

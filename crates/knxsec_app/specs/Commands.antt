@@ -1,15 +1,18 @@
 -- The answer of a whole command, as a function of its words and files.
-use Rattle.std.specs.Prelude.{◌≡◌, ◌≢◌, ℕ, ◌⊎◌, List, [], ◌∷◌, ◌++◌, length, codes, Option, Some, None, unwrap_or}
+use Rattle.std.specs.Prelude.{◌≡◌, ◌≢◌, ℕ, ◌<◌, List, [], ◌∷◌, ◌++◌, length, codes, Option, Some, None, unwrap_or, Ok}
 use Rattle.knx_base.specs.Files.{File, Seen, IsThere, octets_named}
 use Rattle.hex.specs.Hex.{encode_lower}
 use Rattle.judge_rules.specs.declared.verdict.Verdict.{Verdict}
 use Rattle.judge_rules.specs.Text.{verdict_text}
+use Rattle.key_tables.specs.declared.types.Row.{Row}
+use Rattle.keyring_reader.specs.Keyring.{keyring_of}
+use Rattle.frame_file.specs.Records.{no_records}
 use Rattle.knxsec_app.specs.declared.status.Status.{Status}
 use Rattle.knxsec_app.specs.declared.status.Status.TheVariants.{Done, Alarm, Usage, Refused}
 use Rattle.knxsec_app.specs.Words.{Asked, Open, Audit, AuditKeyring, command_of}
 use Rattle.knxsec_app.specs.Answer.{Answer}
 use Rattle.knxsec_app.specs.Opening.{refusal_of, apdu_of}
-use Rattle.knxsec_app.specs.Auditing.{under_tables, audit_answer}
+use Rattle.knxsec_app.specs.Auditing.{under_tables, joined_answer, audit_answer, keyring_answer, unless_long, where_keyring, most_keyring, most_password, password_of}
 
 -- printed where the words are of no form
 abbrev pub usage_line : List ℕ
@@ -87,16 +90,20 @@ RefusesTables under octets = IsRefusal (under_tables octets (joined_answer under
 abbrev pub RefusesKeyring : List ℕ → List ℕ → Type 0
 RefusesKeyring keyring password = IsRefusal (unless_long (codes "password") most_password password (where_keyring (λ rows. unasked) (keyring_of keyring (password_of password))))
 
--- no file but these was opened, so that its place is as before
-abbrev pub OnlyOpened : List (List ℕ) → Seen → Seen → Type 0
-OnlyOpened names old new = (name : List ℕ) → IsNone (find (pointwise nat_eq name) names) → new.places name ≡ old.places name
+abbrev pub Stays : Seen → Seen → List ℕ → Type 0
+Stays old new name = new.places name ≡ old.places name
 
--- After a refusal no further file was opened.
+-- After a refusal no further file was opened: the place of each is as before.
 abbrev pub AreUnopened : Option Asked → List File → Seen → Seen → Type 0
 AreUnopened None files old new = Unit {0}
 AreUnopened (Some (Open key frame)) files old new = Unit {0}
-AreUnopened (Some (Audit tables frames)) files old new = RefusesTables None (octets_in files tables) → OnlyOpened (tables ∷ []) old new
-AreUnopened (Some (AuditKeyring keyring password tables frames)) files old new = Unit {0}
+AreUnopened (Some (Audit tables frames)) files old new =
+    RefusesTables None (octets_in files tables) → (other : List ℕ) → other ≢ tables → Stays old new other
+AreUnopened (Some (AuditKeyring keyring password tables frames)) files old new =
+    (most_keyring < length (octets_in files keyring) → (other : List ℕ) → other ≢ keyring → Stays old new other)
+    × (RefusesKeyring (octets_in files keyring) (octets_in files password) → (other : List ℕ) → other ≢ keyring → other ≢ password → Stays old new other)
+    × ((rows : List Row) → keyring_of (octets_in files keyring) (password_of (octets_in files password)) ≡ Ok rows → RefusesTables (Some rows) (octets_in files tables)
+    → (other : List ℕ) → other ≢ keyring → other ≢ password → other ≢ tables → Stays old new other)
 
 -- the report was written to its end after all files were read
 abbrev pub IsWhole : Status → Type 0

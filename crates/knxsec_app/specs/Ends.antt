@@ -1,5 +1,5 @@
 -- How a status came about, where files were read and a report was written.
-use Rattle.std.specs.Prelude.{◌≡◌, ◌≢◌, ℕ, ◌≤◌, List, length, Option, Some, IsSome}
+use Rattle.std.specs.Prelude.{◌≡◌, ◌≢◌, ℕ, ◌≤◌, List, length, Some, IsSome}
 use Rattle.knx_base.specs.Faults.{Rose}
 use Rattle.knx_base.specs.Files.{Seen}
 use Rattle.knx_base.specs.Reading.{WhereTold}

@@ -4,8 +4,8 @@ use Rattle.std.specs.Fmt.{decimal}
 use Rattle.knx_base.specs.Cause.{cause_word}
 use Rattle.key_tables.specs.declared.faults.TablesFault.{TablesFault}
 use Rattle.key_tables.specs.declared.faults.TablesFault.TheVariants as tables
-use Rattle.tag_text.specs.declared.fault.TagFault.{TagFault}
-use Rattle.tag_text.specs.declared.fault.TagFault.TheVariants as tag
+use Rattle.tag_text.specs.declared.tag.TagFault.{TagFault}
+use Rattle.tag_text.specs.declared.tag.TagFault.TheVariants as tag
 use Rattle.keyring_reader.specs.Attributes.{name_of}
 use Rattle.keyring_reader.specs.declared.fault.KeyringFault.{KeyringFault}
 use Rattle.keyring_reader.specs.declared.fault.KeyringFault.TheVariants as keyring

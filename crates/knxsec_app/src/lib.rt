@@ -4,6 +4,7 @@
 mod auditing;
 mod ending;
 mod frame_word;
+mod keyring;
 mod obey;
 mod opening;
 mod page;

@@ -9,6 +9,7 @@ ghost use Rattle.knxsec_app.specs.Ends.{EndsReading, EndsWriting};
 use crate::Status;
 use crate::auditing::audit;
 use crate::ending::ended;
+use crate::keyring::audit_by_keyring;
 use crate::opening::open;
 use crate::words::Command;
 use knx_base::{Files, Sink, print_text};
@@ -35,7 +36,8 @@ pub(crate) fn obey<F: Files, S: Sink>(
 {
     match command {
         Command::Open { key, frame } => open(key, frame, out),
-        Command::Audit { tables, frames } => audit(alloc, tables, frames, files, out),
+        Command::Audit { tables, frames } => audit(alloc, tables, None, frames, files, out),
+        Command::AuditKeyring(names) => audit_by_keyring(alloc, names, files, out),
     }
 }
 

@@ -1,14 +1,17 @@
-ghost use Rattle.std.specs.Prelude.{◌≡◌, ◌≢◌, codes, ◌≤◌, length};
+ghost use Rattle.std.specs.Prelude.{◌≡◌, ◌≢◌, ◌+◌, ◌++◌, codes, ◌≤◌, length};
 ghost use Rattle.knx_base.specs.Faults.{Rose};
+ghost use Rattle.keyring_reader.specs.Attributes.{name_of};
 ghost use Rattle.knxsec_app.specs.Answer.{Answer, Answers};
 ghost use Rattle.knxsec_app.specs.Commands.{IsWhole};
 ghost use Rattle.knxsec_app.specs.Ends.{EndsWriting};
-ghost use Rattle.knxsec_app.specs.Refusing.{at_line, refused, EndsTables};
+ghost use Rattle.knxsec_app.specs.Refusing.{at_line, at_place, document_reason, keyring_reason, stored_text, refused, EndsTables};
 
 use crate::Status;
 use crate::ending::ended;
 use key_tables::TablesFault;
+use keyring_reader::{Attribute, KeyringFault};
 use knx_base::{LineBuf, Sink, print_text};
+use tag_text::TagFault;
 
 /// Says why a file is refused.
 pub(crate) fn refuse<S: Sink>(line: &LineBuf, out: &mut S) -> Status
@@ -20,12 +23,28 @@ pub(crate) fn refuse<S: Sink>(line: &LineBuf, out: &mut S) -> Status
     ended(print_text(line.bytes(), out), Status::Refused)
 }
 
-/// The line for a file of tables past its limit.
-pub(crate) fn long_tables_line() -> LineBuf
-    ensures { result ≡ (refused (codes "tables") (codes " long")).report }
+/// Refuses a file for a reason of the whole of it.
+pub(crate) fn refuse_whole<S: Sink>(file: &str, reason: &str, out: &mut S) -> Status
+    requires short { length file.now ≤ 20 }
+    requires short_reason { length reason.now ≤ 20 }
+    ensures answer { Answers (refused file.now reason.now) result (S.octets out.old) (S.octets out.new) }
+    ensures ends { EndsWriting (S.faults out.old) (S.faults out.new) result }
+    ensures not_whole { IsWhole result → ⊥ }
+    ensures no_usage { result ≢ Status.Usage }
+{
+    refuse(&whole_line(file, reason), out)
+}
+
+fn whole_line(file: &str, reason: &str) -> LineBuf
+    requires short { length file.now ≤ 20 }
+    requires short_reason { length reason.now ≤ 20 }
+    ensures { result ≡ (refused file.now reason.now).report }
 {
     let mut line = LineBuf::new();
-    line.text("refused tables long\n");
+    line.text("refused ");
+    line.text(file);
+    line.text(reason);
+    line.octet(b'\n');
     line
 }
 
@@ -61,4 +80,104 @@ pub(crate) fn line_at(file: &str, number: u64, word: &str) -> LineBuf
     line.text(word);
     line.octet(b'\n');
     line
+}
+
+/// Says why a keyring is refused.
+pub(crate) fn refuse_keyring<S: Sink>(fault: &KeyringFault, out: &mut S) -> Status
+    ensures answer { fault.now ≢ KeyringFault.NoMemory → Answers (refused (codes "keyring") (keyring_reason fault.now)) result (S.octets out.old) (S.octets out.new) }
+    ensures no_memory { fault.now ≡ KeyringFault.NoMemory → (result ≡ Status.NoMemory) × (S.octets out.new ≡ S.octets out.old) }
+    ensures no_reading { result ≢ Status.ReadFault }
+    ensures write_fault { result ≡ Status.WriteFault → Rose (S.faults out.old) (S.faults out.new) }
+    ensures later { S.faults out.old ≤ S.faults out.new }
+    ensures no_usage { result ≢ Status.Usage }
+    ensures not_whole { IsWhole result → ⊥ }
+{
+    if *fault == KeyringFault::NoMemory {
+        Status::NoMemory
+    } else {
+        refuse(&keyring_line(fault), out)
+    }
+}
+
+fn keyring_line(fault: &KeyringFault) -> LineBuf
+    ensures { result ≡ (refused (codes "keyring") (keyring_reason fault.now)).report }
+{
+    match fault {
+        KeyringFault::Tag(fault) => document_line(fault),
+        KeyringFault::NotKeyring => whole_line("keyring", " root"),
+        KeyringFault::Missing(attribute, place) => missing_line(*attribute, *place),
+        KeyringFault::LongText(place) => place_line(*place, "long-text"),
+        KeyringFault::Signature { stored, computed } => signature_line(stored, computed),
+        KeyringFault::Key(place) => place_line(*place, "key"),
+        KeyringFault::Address(place) => place_line(*place, "address"),
+        KeyringFault::Twice(place) => place_line(*place, "twice"),
+        KeyringFault::NoMemory => whole_line("keyring", ""),
+    }
+}
+
+fn document_line(fault: &TagFault) -> LineBuf
+    ensures { result ≡ (refused (codes "keyring") (document_reason fault.now)).report }
+{
+    match fault {
+        TagFault::Bad(place) => place_line(*place, "bad"),
+        TagFault::Utf8(place) => place_line(*place, "utf8"),
+        TagFault::Deep(place) => place_line(*place, "deep"),
+        TagFault::NoMemory => whole_line("keyring", ""),
+    }
+}
+
+fn place_line(place: usize, word: &str) -> LineBuf
+    requires short { length word.now ≤ 20 }
+    ensures { result ≡ (refused (codes "keyring") (at_place place word.now)).report }
+{
+    let mut line = LineBuf::new();
+    line.text("refused keyring at ");
+    line.decimal(place as u64);
+    line.octet(b' ');
+    line.text(word);
+    line.octet(b'\n');
+    line
+}
+
+fn missing_line(attribute: Attribute, place: usize) -> LineBuf
+    ensures { result ≡ (refused (codes "keyring") (at_place place (codes "missing " ++ name_of attribute))).report }
+{
+    let mut line = LineBuf::new();
+    line.text("refused keyring at ");
+    line.decimal(place as u64);
+    line.text(" missing ");
+    line.text(attribute_name(attribute));
+    line.octet(b'\n');
+    line
+}
+
+#[tactic(auto, using(crate::proofs::Refused::name_short))]
+fn attribute_name(attribute: Attribute) -> &'static str
+    ensures name { result.now ≡ name_of attribute }
+    ensures short { length result.now ≤ 20 }
+{
+    attribute.name()
+}
+
+fn signature_line(stored: &Option<[u8; 16]>, computed: &[u8; 16]) -> LineBuf
+    ensures { result ≡ (refused (codes "keyring") (keyring_reason (KeyringFault.Signature stored.now computed.now))).report }
+{
+    let mut line = LineBuf::new();
+    line.text("refused keyring signature ");
+    put_stored(stored, &mut line);
+    line.octet(b' ');
+    line.hex(computed);
+    line.octet(b'\n');
+    line
+}
+
+fn put_stored(stored: &Option<[u8; 16]>, line: &mut LineBuf)
+    requires room { length line.old + 32 ≤ 1024 }
+    ensures added { line.new ≡ line.old ++ stored_text stored.now }
+    ensures short { length line.new ≤ length line.old + 32 }
+{
+    match stored {
+        Some(stored) => line.hex(stored),
+        None => line.octet(b'-'),
+    }
 }

@@ -1,4 +1,4 @@
-ghost use Rattle.std.specs.Prelude.{◌≡◌, map};
+ghost use Rattle.std.specs.Prelude.{◌≡◌, ◌∷◌, [], map};
 ghost use Rattle.std.specs.Option.{option_map};
 ghost use Rattle.std.specs.String.{string_bytes};
 ghost use Rattle.knxsec_app.specs.Words.{command_of, opening, octets_between};
@@ -14,6 +14,17 @@ pub(crate) enum Command<'a> {
     Open { key: [u8; 16], frame: FrameWord },
     /// To judge the records of one file under the tables of another.
     Audit { tables: &'a str, frames: &'a str },
+    /// The same under the rows of a keyring too.
+    AuditKeyring(KeyringNames<'a>),
+}
+
+/// The names of the files of an audit by a keyring.
+#[derive(Clone, Copy)]
+pub(crate) struct KeyringNames<'a> {
+    pub(crate) keyring: &'a str,
+    pub(crate) password: &'a str,
+    pub(crate) tables: &'a str,
+    pub(crate) frames: &'a str,
 }
 
 fn read_key(word: &str) -> Option<[u8; 16]>
@@ -29,13 +40,30 @@ fn read_key(word: &str) -> Option<[u8; 16]>
 pub(crate) fn read_words(words: &[String]) -> Option<Command<'_>>
     ensures asked { option_map asked_of result ≡ command_of (map string_bytes words.now) }
 {
-    let [verb, first, second] = words else {
+    if let [verb, first, second] = words {
+        return read_two(verb, first, second);
+    }
+    let [verb, keyring, password, tables, frames] = words else {
         return None;
     };
-    if verb.as_str() == "open" {
+    if verb.as_str() != "audit-keyring" {
+        return None;
+    }
+    Some(Command::AuditKeyring(KeyringNames {
+        keyring,
+        password,
+        tables,
+        frames,
+    }))
+}
+
+fn read_two<'a>(verb: &str, first: &'a str, second: &'a str) -> Option<Command<'a>>
+    ensures asked { option_map asked_of result ≡ command_of (verb.now ∷ first.now ∷ second.now ∷ []) }
+{
+    if verb == "open" {
         return read_opening(first, second);
     }
-    if verb.as_str() != "audit" {
+    if verb != "audit" {
         return None;
     }
     Some(Command::Audit {

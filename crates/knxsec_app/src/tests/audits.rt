@@ -3,10 +3,9 @@ ghost use Rattle.std.specs.String.{string_bytes};
 
 use crate::{Status, run};
 use knx_base::{HostFiles, HostSink, MemFiles, MemSink, NoMemory};
-use std::alloc::{AllocGlobal, Global};
-use std::test::Fail;
+use std::alloc::Global;
 use std::fs;
-use std::process::Abort;
+use std::test::Fail;
 
 const TABLES: &str =
     "group 1/2/3 000102030405060708090a0b0c0d0e0f conf\nrole 1/2/3 1.1.7 command\n";
@@ -65,19 +64,6 @@ fn audited(
     Ok((out, status))
 }
 
-// The reports of audits, each with its tables, its frames and its status.
-fn compare<R: Abort + AllocGlobal, const N: usize>(
-    rt: &R,
-    rows: [(&str, &str, &str, Status); N],
-) -> Result<(), Fail> {
-    for (tables, frames, report, ended) in rows {
-        let (out, status) = audited(rt.alloc(), tables, frames, 1_000_000)?;
-        assert_eq!(rt; out.bytes(), report.as_bytes());
-        assert_eq!(rt; status, ended);
-    }
-    Ok(())
-}
-
 #[test]
 fn each_record_is_judged_by_those_before_it(rt: HostRuntime) -> Result<(), Fail> {
     let rows = [
@@ -118,7 +104,12 @@ fn each_record_is_judged_by_those_before_it(rt: HostRuntime) -> Result<(), Fail>
             Status::Alarm,
         ),
     ];
-    compare(&rt, rows)
+    for (tables, frames, report, ended) in rows {
+        let (out, status) = audited(rt.alloc(), tables, frames, 1_000_000)?;
+        assert_eq!(rt; out.bytes(), report.as_bytes());
+        assert_eq!(rt; status, ended);
+    }
+    Ok(())
 }
 
 #[test]
@@ -149,7 +140,12 @@ fn readable_frames_and_records_that_are_none_are_told(rt: HostRuntime) -> Result
             Status::Alarm,
         ),
     ];
-    compare(&rt, rows)
+    for (tables, frames, report, ended) in rows {
+        let (out, status) = audited(rt.alloc(), tables, frames, 1_000_000)?;
+        assert_eq!(rt; out.bytes(), report.as_bytes());
+        assert_eq!(rt; status, ended);
+    }
+    Ok(())
 }
 
 #[test]
@@ -174,7 +170,12 @@ fn a_refused_file_ends_the_report(rt: HostRuntime) -> Result<(), Fail> {
             Status::Refused,
         ),
     ];
-    compare(&rt, rows)
+    for (tables, frames, report, ended) in rows {
+        let (out, status) = audited(rt.alloc(), tables, frames, 1_000_000)?;
+        assert_eq!(rt; out.bytes(), report.as_bytes());
+        assert_eq!(rt; status, ended);
+    }
+    Ok(())
 }
 
 #[test]

@@ -1,4 +1,4 @@
-use Rattle.std.proofs.Common.{rules, ◌≡◌, ◌+◌, [], ap, sym, subst, ◌∙◌}
+use Rattle.std.proofs.Common.{rules, ◌+◌, [], ap, sym, subst, ◌∙◌}
 use Rattle.knx_base.specs.Files.{Seen}
 use Rattle.knx_base.proofs.Readers.{goes_then}
 use Rattle.knxsec_app.specs.Answer.{Answers}

@@ -1,4 +1,4 @@
-use Rattle.std.proofs.Common.{◌≡◌, sym, ap, subst, ◌∙◌}
+use Rattle.std.proofs.Common.{sym, ap, subst, ◌∙◌}
 use Rattle.std.specs.Prelude.{codes}
 use Rattle.knx_base.specs.Cause.{cause_word}
 use Rattle.knxsec_app.specs.Refusing.{at_line, refused, EndsTables}

@@ -1,7 +1,6 @@
-use Rattle.std.proofs.Common.{◌≡◌, ◌++◌, subst, sym, ap, ◌∙◌, List, ℕ}
+use Rattle.std.proofs.Common.{subst, ap, ◌∙◌}
 use Rattle.std.specs.Io.KnownBytes.{append_known}
 use Rattle.knx_base.specs.Sink.{AppendsPrefix}
-use Rattle.audit_core.specs.Text.{line_text}
 use Rattle.knxsec_app.proofs.Answering.{cut_back, passes_through, fails_through}
 use Rattle.knxsec_app.proofs.report.pass_line.Goals as goal
 
