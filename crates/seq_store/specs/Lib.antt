@@ -1,0 +1,4 @@
+pub mod Agrees
+pub mod Laws
+pub mod Layout
+pub mod Store

@@ -1,0 +1,20 @@
+ghost use Rattle.std.specs.Prelude.{◌≡◌, ◌≤◌, ◌^◌, true};
+ghost use Rattle.std.proofs.Props.{props};
+ghost use Rattle.seq_store.specs.Agrees.{Agrees};
+
+mod views;
+
+use knx_base::Number48;
+use nvm_model::Nvm;
+
+/// The marks of a device's lanes and its last reserved number, kept in a memory.
+#[derive(Drop)]
+pub struct SeqStore<M: Nvm> {
+    memory: M,
+    marks: Vec<Number48>,
+    reserved: Number48,
+    next: u64,
+    sound: bool,
+    ghost agrees: { sound ≡ true → Agrees (M.state memory) marks.items reserved } by { Prim.hlevel props },
+    ghost next_fits: { next ≤ 2 ^ 48 },
+}

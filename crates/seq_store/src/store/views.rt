@@ -1,0 +1,51 @@
+ghost use Rattle.std.specs.Prelude.{◌≡◌, ◌+◌, ◌<◌, length, max, slice_index};
+ghost use Rattle.seq_store.specs.Store.{store_state};
+
+use crate::SeqStore;
+use knx_base::Number48;
+use nvm_model::Nvm;
+
+impl<M: Nvm> SeqStore<M> {
+    /// The mark of a lane.
+    pub fn mark(&self, lane: usize) -> Number48
+        requires in_range { lane < length (store_state self.now).marks }
+        ensures mark { result ≡ slice_index (store_state self.now).marks lane }
+    {
+        self.marks[lane]
+    }
+
+    /// The number that the next draw gives, or 2^48 where all are drawn.
+    pub fn next(&self) -> u64
+        ensures next { result ≡ (store_state self.now).next }
+    {
+        self.next
+    }
+
+    /// Whether no call of the memory has failed.
+    pub fn is_sound(&self) -> bool
+        ensures sound { result ≡ (store_state self.now).sound }
+    {
+        self.sound
+    }
+
+    /// Makes the next number greater than this one. It changes working memory only.
+    pub fn raise_next(&mut self, above: Number48)
+        ensures next { store_state self.new ≡ record (store_state self.old) { next = max (store_state self.old).next (above + 1) } }
+    {
+        self.next = self.next.max(above.get() + 1);
+    }
+
+    /// The memory as it is.
+    pub fn memory(&self) -> &M
+        ensures memory { result.now ≡ (store_state self.now).memory }
+    {
+        &self.memory
+    }
+
+    /// Gives the memory back as it is.
+    pub fn into_memory(self) -> M
+        ensures memory { result ≡ (store_state self).memory }
+    {
+        self.memory
+    }
+}
