@@ -1,6 +1,8 @@
 //! Marks and reserved numbers that outlive a loss of power.
 #![tactic(auto)]
 
+mod layout;
 mod store;
 
+pub use layout::stored_value;
 pub use store::SeqStore;

@@ -1,0 +1,68 @@
+//! Where a memory keeps its numbers. This module alone knows places.
+ghost use Rattle.std.specs.Prelude.{◌≡◌, ℕ, ◌+◌, ◌*◌, ◌≤◌, length, Some, None, Err, IfOk};
+ghost use Rattle.nvm_model.specs.Nvm.{Makes, Reads, fault_of};
+ghost use Rattle.mark_cells.specs.Cell.{memory_fault};
+ghost use Rattle.seq_store.specs.Laws.{MayRaise, RaisesWhole};
+ghost use Rattle.seq_store.specs.Layout.{most_lanes, store_size, place_of, value_of, raise_writes};
+
+use knx_base::Number48;
+use mark_cells::{CELL_SIZE, CellFault, cell_reading, raise_cell, read_cell};
+use nvm_model::{Nvm, NvmFault};
+
+// The place of the cell of this value.
+#[tactic(auto, unfolding(crate::specs::Layout::place_of))]
+pub fn place_of(lanes: usize, value: usize) -> usize
+    requires lanes_fit { lanes ≤ most_lanes }
+    requires in_range { value ≤ lanes }
+    ensures place { result ≡ place_of lanes value }
+    ensures cell { result ≡ 14 * value }
+    ensures inside { result + 14 ≤ store_size lanes }
+{
+    CELL_SIZE * value
+}
+
+// Reads this value.
+#[tactic(auto, unfolding(crate::specs::Layout::value_of))]
+pub fn read_value<M: Nvm>(memory: &mut M, lanes: usize, value: usize) -> Result<Number48, CellFault>
+    requires size { length (M.state memory.old).octets ≡ store_size lanes }
+    requires lanes_fit { lanes ≤ most_lanes }
+    requires in_range { value ≤ lanes }
+
+    ensures value { IfOk result (λ number. value_of lanes (M.state memory.old).octets value ≡ Some number) }
+    ensures unformatted { result ≡ Err CellFault.Unformatted → value_of lanes (M.state memory.old).octets value ≡ None }
+    ensures reads { Reads (memory_fault result)
+        (M.state memory.old) (M.state memory.new) (M.images memory.old) (M.images memory.new) }
+{
+    read_cell(memory, place_of(lanes, value))
+}
+
+// Raises this value.
+#[tactic(auto, unfolding(crate::specs::Layout::raise_writes), using(crate::proofs::Cells::reads_below))]
+pub fn raise_value<M: Nvm>(
+    memory: &mut M,
+    lanes: usize,
+    value: usize,
+    number: Number48,
+) -> Result<(), NvmFault>
+    requires may { MayRaise lanes (M.state memory.old).octets value number }
+
+    ensures makes { Makes (raise_writes lanes (M.state memory.old).octets value number) (fault_of result)
+        (M.state memory.old) (M.state memory.new) (M.images memory.old) (M.images memory.new) }
+{
+    raise_cell(memory, place_of(lanes, value), number)
+}
+
+/// This value of an image, or None where it has none: value 0 is the last reserved number, and value 1 + i the mark of lane i.
+pub fn stored_value(image: &[u8], lanes: usize, value: usize) -> Option<Number48>
+    requires size { length image.now ≡ store_size lanes }
+    requires lanes_fit { lanes ≤ most_lanes }
+    requires in_range { value ≤ lanes }
+
+    ensures value { result ≡ value_of lanes image.now value }
+    ensures raises { (n : ℕ) → MayRaise lanes image.now value n → RaisesWhole lanes image.now value n }
+{
+    let place = place_of(lanes, value);
+    let mut cell = [0; CELL_SIZE];
+    cell.copy_from_slice(&image[place..place + CELL_SIZE]);
+    cell_reading(&cell)
+}
