@@ -1,12 +1,13 @@
 //! Where a memory keeps its numbers. This module alone knows places.
-ghost use Rattle.std.specs.Prelude.{◌≡◌, ℕ, ◌+◌, ◌*◌, ◌≤◌, length, Some, None, Err, IfOk};
+ghost use Rattle.std.specs.Prelude.{◌≡◌, ℕ, ◌+◌, ◌*◌, ◌^◌, ◌<◌, ◌≤◌, true, List,  length, Some, None, Err, All, EachIndex, slice_index, IfOk, OnOk, IsOk};
 ghost use Rattle.nvm_model.specs.Nvm.{Makes, Reads, fault_of};
-ghost use Rattle.mark_cells.specs.Cell.{memory_fault};
-ghost use Rattle.seq_store.specs.Laws.{MayRaise, RaisesWhole};
-ghost use Rattle.seq_store.specs.Layout.{most_lanes, store_size, place_of, value_of, raise_writes};
+ghost use Rattle.nvm_model.specs.Plan.{unarmed};
+ghost use Rattle.mark_cells.specs.Cell.{memory_fault, reading};
+ghost use Rattle.seq_store.specs.Laws.{Ready, Restores, MayRaise, RaisesWhole};
+ghost use Rattle.seq_store.specs.Layout.{most_lanes, store_size, place_of, value_of, raise_writes, formatted_memory, formatting_writes};
 
 use knx_base::Number48;
-use mark_cells::{CELL_SIZE, CellFault, cell_reading, raise_cell, read_cell};
+use mark_cells::{CELL_SIZE, CellFault, cell_reading, format_cell, raise_cell, read_cell};
 use nvm_model::{Nvm, NvmFault};
 
 // The place of the cell of this value.
@@ -65,4 +66,51 @@ pub fn stored_value(image: &[u8], lanes: usize, value: usize) -> Option<Number48
     let mut cell = [0; CELL_SIZE];
     cell.copy_from_slice(&image[place..place + CELL_SIZE]);
     cell_reading(&cell)
+}
+
+/// Formats a memory: this last reserved number, and a mark for each lane.
+pub fn format_store<M: Nvm>(
+    memory: &mut M,
+    reserved: Number48,
+    marks: &[Number48],
+) -> Result<(), NvmFault>
+    requires size { length (M.state memory.old).octets ≡ store_size (length marks.now) }
+
+    ensures makes { Makes (formatting_writes reserved marks.now) (fault_of result)
+        (M.state memory.old) (M.state memory.new) (M.images memory.old) (M.images memory.new) }
+    ensures formatted { OnOk result ((M.state memory.new).octets ≡ formatted_memory reserved marks.now) }
+    ensures restores { OnOk result (Restores (M.state memory.new).octets reserved marks.now) }
+    ensures unarmed { (M.state memory.old).plan ≡ Some unarmed → (M.state memory.old).powered ≡ true
+        → IsOk result × ((M.state memory.new).plan ≡ Some unarmed) }
+
+    // A formatted memory restores its numbers.
+    ensures law { (last : ℕ) (numbers : List ℕ) → last < 2 ^ 48 → All (λ n. n < 2 ^ 48) numbers
+        → Restores (formatted_memory last numbers) last numbers × Ready (length numbers) (formatted_memory last numbers) }
+{
+    format_cells(memory, reserved, marks)
+}
+
+// Formats the cells of all values.
+fn format_cells<M: Nvm>(
+    memory: &mut M,
+    reserved: Number48,
+    marks: &[Number48],
+) -> Result<(), NvmFault>
+    requires size { length (M.state memory.old).octets ≡ store_size (length marks.now) }
+
+    ensures makes { Makes (formatting_writes reserved marks.now) (fault_of result)
+        (M.state memory.old) (M.state memory.new) (M.images memory.old) (M.images memory.new) }
+    ensures reserved { OnOk result (reading (M.state memory.new).octets 0 ≡ Some reserved) }
+    ensures marks { OnOk result (EachIndex marks.now
+        (λ k. reading (M.state memory.new).octets (14 * (1 + k)) ≡ Some (slice_index marks.now k))) }
+{
+    format_cell(memory, 0, reserved)?;
+    let mut place = CELL_SIZE;
+    for mark in marks {
+        if let Err(fault) = format_cell(memory, place, *mark) {
+            return Err(fault);
+        }
+        place += CELL_SIZE;
+    }
+    Ok(())
 }

@@ -4,5 +4,5 @@
 mod layout;
 mod store;
 
-pub use layout::stored_value;
+pub use layout::{format_store, stored_value};
 pub use store::SeqStore;
