@@ -14,6 +14,7 @@ use Rattle.mark_cells.proofs.Cells.{length-formatted, reading_formatted}
 use Rattle.mark_cells.proofs.Copies.{reading_same}
 use Rattle.seq_store.specs.Layout.{store_size, value_of, cells_of, cells_writes, formatted_memory, formatting_writes}
 use Rattle.seq_store.specs.Laws.{Ready, Restores}
+use Rattle.seq_store.proofs.Starts.{restores_ready}
 
 length-cells_of : (ns : List ℕ) → length (cells_of ns) ≡ 14 * length ns
 unfolding cells_of
@@ -61,14 +62,6 @@ reads_cells (n ∷ ns) front zero at is below fits =
 reads_cells (n ∷ ns) front (suc v) at is below fits =
     ap (λ image. reading image at) (sym (append_assoc front (formatted n) (cells_of ns)))
     ∙ reads_cells ns (front ++ formatted n) v at (simp length-append (omega (arith, is, length-formatted n))) (omega (arith, below)) (λ k h. fits (suc k) (omega (arith, h)))
-
--- What restores its numbers is ready.
-pub restores_ready : (image : List ℕ) (last : ℕ) (marks : List ℕ) → Restores image last marks → Ready (length marks) image
-restores_ready image last marks restores = record { size = restores.size; values = values } where
-  values : (v : ℕ) → v ≤ length marks → IsSome (value_of (length marks) image v)
-  values zero in_range = subst IsSome (sym restores.reserved) refl
-  values (suc lane) in_range = subst (λ v. IsSome (value_of (length marks) image v)) (omega arith)
-      (subst IsSome (sym (restores.each lane (omega (arith, in_range)))) refl)
 
 all_fit : (n : ℕ) (ns : List ℕ) → n < 2 ^ 48 → ((k : ℕ) → k < length ns → slice_index ns k < 2 ^ 48)
     → (k : ℕ) → k < length (n ∷ ns) → slice_index (n ∷ ns) k < 2 ^ 48

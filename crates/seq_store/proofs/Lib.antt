@@ -1,2 +1,3 @@
 pub mod Cells
 pub mod Formatting
+pub mod Starts

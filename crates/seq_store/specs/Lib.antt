@@ -1,4 +1,5 @@
 pub mod Agrees
 pub mod Laws
 pub mod Layout
+pub mod Refusal
 pub mod Store

@@ -1,11 +1,13 @@
 //! Where a memory keeps its numbers. This module alone knows places.
-ghost use Rattle.std.specs.Prelude.{◌≡◌, ℕ, ◌+◌, ◌*◌, ◌^◌, ◌<◌, ◌≤◌, true, List,  length, Some, None, Err, All, EachIndex, slice_index, IfOk, OnOk, IsOk};
+ghost use Rattle.std.specs.Prelude.{◌≡◌, ◌≢◌, ℕ, ◌+◌, ◌*◌, ◌^◌, ◌<◌, ◌≤◌, true, List,  length, Some, None, Err, All, EachIndex, slice_index, IfOk, OnOk, IsOk};
 ghost use Rattle.nvm_model.specs.Nvm.{Makes, Reads, fault_of};
 ghost use Rattle.nvm_model.specs.Plan.{unarmed};
-ghost use Rattle.mark_cells.specs.Cell.{memory_fault, reading};
+ghost use Rattle.mark_cells.specs.Cell.{reading};
+ghost use Rattle.seq_store.specs.Refusal.{reading_fault};
 ghost use Rattle.seq_store.specs.Laws.{Ready, Restores, MayRaise, RaisesWhole};
 ghost use Rattle.seq_store.specs.Layout.{most_lanes, store_size, place_of, value_of, raise_writes, formatted_memory, formatting_writes};
 
+use crate::StoreFault;
 use knx_base::Number48;
 use mark_cells::{CELL_SIZE, CellFault, cell_reading, format_cell, raise_cell, read_cell};
 use nvm_model::{Nvm, NvmFault};
@@ -23,18 +25,28 @@ pub fn place_of(lanes: usize, value: usize) -> usize
 }
 
 // Reads this value.
-#[tactic(auto, unfolding(crate::specs::Layout::value_of))]
-pub fn read_value<M: Nvm>(memory: &mut M, lanes: usize, value: usize) -> Result<Number48, CellFault>
+pub fn read_value<M: Nvm>(
+    memory: &mut M,
+    lanes: usize,
+    value: usize,
+) -> Result<Number48, StoreFault>
     requires size { length (M.state memory.old).octets ≡ store_size lanes }
     requires lanes_fit { lanes ≤ most_lanes }
     requires in_range { value ≤ lanes }
 
     ensures value { IfOk result (λ number. value_of lanes (M.state memory.old).octets value ≡ Some number) }
-    ensures unformatted { result ≡ Err CellFault.Unformatted → value_of lanes (M.state memory.old).octets value ≡ None }
-    ensures reads { Reads (memory_fault result)
+    ensures unformatted { (place : ℕ) → result ≡ Err (StoreFault.Unformatted place)
+        → (place ≡ place_of lanes value) × (value_of lanes (M.state memory.old).octets value ≡ None) }
+    ensures had_memory { result ≢ Err StoreFault.NoMemory }
+    ensures reads { Reads (reading_fault result)
         (M.state memory.old) (M.state memory.new) (M.images memory.old) (M.images memory.new) }
 {
-    read_cell(memory, place_of(lanes, value))
+    let place = place_of(lanes, value);
+    match read_cell(memory, place) {
+        Ok(number) => Ok(number),
+        Err(CellFault::Unformatted) => Err(StoreFault::Unformatted(place)),
+        Err(CellFault::Memory(fault)) => Err(StoreFault::Memory(fault)),
+    }
 }
 
 // Raises this value.

@@ -1,8 +1,10 @@
 //! Marks and reserved numbers that outlive a loss of power.
 #![tactic(auto)]
 
+mod fault;
 mod layout;
 mod store;
 
+pub use fault::{DrawFault, StoreFault, StoreRefused};
 pub use layout::{format_store, stored_value};
 pub use store::SeqStore;
