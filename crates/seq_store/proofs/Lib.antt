@@ -1,3 +1,4 @@
 pub mod Cells
 pub mod Formatting
+pub mod Raises
 pub mod Starts

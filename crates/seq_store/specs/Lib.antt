@@ -1,4 +1,5 @@
 pub mod Agrees
+pub mod Draws
 pub mod Laws
 pub mod Layout
 pub mod Refusal

@@ -12,3 +12,6 @@ pub record StoreState (M : Type 0) : Type 0 where
 
 abbrev pub store_state : {M : Type 0} {g : _} → SeqStore M g → StoreState M
 store_state s = record { memory = s.memory; marks = s.marks.items; next = s.next; sound = s.sound }
+
+abbrev pub lanes_of : {M : Type 0} → StoreState M → ℕ
+lanes_of s = length s.marks

@@ -1,0 +1,97 @@
+-- A raise in a memory that a store agrees with, by the laws of the layout alone.
+use Rattle.std.proofs.Common.{◌≡◌, ◌≢◌, ℕ, ◌+◌, ◌^◌, ◌<◌, ◌≤◌, true, List, length, Option, None, Some, refl, sym, ap, subst, ◌∙◌, inl, inr, arith}
+use Rattle.std.specs.Prelude.{slice_index, slice_set, Result, Ok, Err, OnOk}
+use Rattle.std.proofs.lemmas.Bool.{cases_order}
+use Rattle.std.proofs.lemmas.Grind.{common_steps}
+use Rattle.nvm_model.specs.Nvm.{State, LeavesOnly, Makes, fault_of}
+use Rattle.nvm_model.specs.declared.fault.NvmFault.{NvmFault}
+use Rattle.nvm_model.proofs.Runs.{makes_reached}
+use Rattle.seq_store.specs.Agrees.{Agrees}
+use Rattle.seq_store.specs.Layout.{most_lanes, store_size, value_of, raise_writes}
+use Rattle.seq_store.specs.Laws.{Ready, Restores, IsRaised, IsOldOrRaised, MayRaise}
+use Rattle.seq_store.proofs.Cells.{raises_whole}
+use Rattle.seq_store.proofs.Starts.{restores_ready}
+
+module _ (s : State) (marks : List ℕ) (last : ℕ) (agrees : Agrees s marks last) where
+  ready : Ready (length marks) s.octets
+  ready = restores_ready s.octets last marks agrees.restores
+
+  -- a mark, and the last reserved number, may be raised
+  pub may_raise : (lane n : ℕ) → lane < length marks → slice_index marks lane < n → n < 2 ^ 48 → MayRaise (length marks) s.octets (1 + lane) n
+  may_raise lane n in_range above fits = record {
+    lanes_fit = agrees.lanes_fit;
+    ready = ready;
+    in_range = omega arith;
+    old = slice_index marks lane;
+    here = agrees.restores.each lane in_range;
+    above = above;
+    fits = fits;
+  }
+
+  pub may_reserve : (n : ℕ) → last < n → n < 2 ^ 48 → MayRaise (length marks) s.octets 0 n
+  may_reserve n above fits = record {
+    lanes_fit = agrees.lanes_fit;
+    ready = ready;
+    in_range = omega arith;
+    old = last;
+    here = agrees.restores.reserved;
+    above = above;
+    fits = fits;
+  }
+
+  -- what the store agrees with after a raise of a mark
+  pub agrees_raised : (lane n : ℕ) (b : State) → lane < length marks → b.powered ≡ true
+      → IsRaised (length marks) s.octets (1 + lane) n b.octets → Agrees b (slice_set marks lane n) last
+  agrees_raised lane n b in_range on raised = record {
+    powered = on;
+    lanes_fit = subst (λ lanes. lanes ≤ most_lanes) (sym same_lanes) agrees.lanes_fit;
+    restores = record {
+      size = subst (λ lanes. length b.octets ≡ store_size lanes) (sym same_lanes) raised.ready.size;
+      reserved = subst (λ lanes. value_of lanes b.octets 0 ≡ Some last) (sym same_lanes)
+          (raised.others 0 (omega arith) (λ same. absurd (omega (arith, same))) ∙ agrees.restores.reserved);
+      each = λ other h. subst (λ lanes. value_of lanes b.octets (1 + other) ≡ Some (slice_index (slice_set marks lane n) other)) (sym same_lanes)
+          (each other (omega (arith, h, same_lanes)));
+    };
+  } where
+    same_lanes : length (slice_set marks lane n) ≡ length marks
+    same_lanes = grind (arith, common_steps)
+
+    each : (other : ℕ) → other < length marks → value_of (length marks) b.octets (1 + other) ≡ Some (slice_index (slice_set marks lane n) other)
+    each other h = elim (cases_order other lane) [
+      | inl same ↦ subst (λ k. value_of (length marks) b.octets (1 + k) ≡ Some (slice_index (slice_set marks lane n) k)) (sym same)
+          (raised.here ∙ ap Some (grind (arith, common_steps)))
+      | inr apart ↦
+        let not_same : other ≢ lane = λ same. elim apart [ inl below ↦ absurd (omega arith) | inr above ↦ absurd (omega arith) ] in
+        raised.others (1 + other) (omega arith) (λ same. not_same (omega (arith, same)))
+        ∙ agrees.restores.each other h ∙ ap Some (grind (arith, common_steps))
+    ]
+
+  -- and after one of the last reserved number
+  pub agrees_reserved : (n : ℕ) (b : State) → b.powered ≡ true → IsRaised (length marks) s.octets 0 n b.octets → Agrees b marks n
+  agrees_reserved n b on raised = record {
+    powered = on;
+    lanes_fit = agrees.lanes_fit;
+    restores = record {
+      size = raised.ready.size;
+      reserved = raised.here;
+      each = λ lane in_range. raised.others (1 + lane) (omega arith) (λ same. absurd (omega (arith, same))) ∙ agrees.restores.each lane in_range;
+    };
+  }
+
+-- Any call that makes the writes of a raise leaves only such images,
+module _ {a b : State} {p q : ℕ → List ℕ → Type 0} (lanes v n : ℕ) (may : MayRaise lanes a.octets v n) where
+  pub moments : {answer : Option NvmFault} → Makes (raise_writes lanes a.octets v n) answer a b p q → LeavesOnly a.clock p q (IsOldOrRaised lanes a.octets v n)
+  moments made = λ t image early since. elim (made.images t image early since) [
+    | inl past ↦ inl past
+    | inr reached ↦ inr ((raises_whole lanes v n a.octets may).torn image reached)
+  ]
+
+  -- leaves one of them, whatever it is answered,
+  pub leaves_one : {answer : Option NvmFault} → Makes (raise_writes lanes a.octets v n) answer a b p q → IsOldOrRaised lanes a.octets v n b.octets
+  leaves_one made = (raises_whole lanes v n a.octets may).torn b.octets (makes_reached made)
+
+  -- and leaves the number where it is answered Ok.
+  pub leaves_raised : {T : Type 0} (result : Result T NvmFault) → Makes (raise_writes lanes a.octets v n) (fault_of result) a b p q
+      → OnOk result (IsRaised lanes a.octets v n b.octets)
+  leaves_raised (Ok _) made = subst (IsRaised lanes a.octets v n) (sym made.octets) (raises_whole lanes v n a.octets may).whole
+  leaves_raised (Err _) made = tt

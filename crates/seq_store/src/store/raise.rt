@@ -1,0 +1,54 @@
+ghost use Rattle.std.specs.Prelude.{◌≡◌, ◌+◌, ◌<◌, ◌≤◌, ◌↔◌, true, length, slice_index, slice_set, IsTrue, IsOk, OnOk, OnErr};
+ghost use Rattle.nvm_model.specs.Nvm.{Makes, LeavesOnly, fault_of};
+ghost use Rattle.seq_store.specs.Laws.{IsRaised, IsOldOrRaised};
+ghost use Rattle.seq_store.specs.Layout.{raise_writes};
+ghost use Rattle.seq_store.specs.Store.{store_state, lanes_of};
+
+use crate::SeqStore;
+use crate::layout::raise_value;
+use knx_base::Number48;
+use nvm_model::{Nvm, NvmFault};
+
+impl<M: Nvm> SeqStore<M> {
+    /// Raises the mark of a lane, in at most three writes.
+    ///
+    /// A loss of power at any moment leaves the old mark or the new one, and all else as it was. After a fault the store is not
+    /// sound. Failed comes only where the memory counted a fault in this call, Cut only where it counted a cut.
+    pub fn raise(&mut self, lane: usize, number: Number48) -> Result<(), NvmFault>
+        requires sound { (store_state self.old).sound ≡ true }
+        requires in_range { lane < lanes_of (store_state self.old) }
+        requires above { slice_index (store_state self.old).marks lane < number }
+
+        ensures makes { Makes (raise_writes (lanes_of (store_state self.old)) (M.state (store_state self.old).memory).octets (1 + lane) number) (fault_of result)
+            (M.state (store_state self.old).memory) (M.state (store_state self.new).memory)
+            (M.images (store_state self.old).memory) (M.images (store_state self.new).memory) }
+        ensures any_moment { LeavesOnly (M.state (store_state self.old).memory).clock
+            (M.images (store_state self.old).memory) (M.images (store_state self.new).memory)
+            (IsOldOrRaised (lanes_of (store_state self.old)) (M.state (store_state self.old).memory).octets (1 + lane) number) }
+        // What is there now is one of those images.
+        ensures now { IsOldOrRaised (lanes_of (store_state self.old)) (M.state (store_state self.old).memory).octets (1 + lane) number
+            (M.state (store_state self.new).memory).octets }
+        ensures raised { OnOk result (IsRaised (lanes_of (store_state self.old)) (M.state (store_state self.old).memory).octets (1 + lane) number
+            (M.state (store_state self.new).memory).octets) }
+        ensures few { (M.state (store_state self.new).memory).clock ≤ (M.state (store_state self.old).memory).clock + 3 }
+
+        ensures marks { OnOk result ((store_state self.new).marks ≡ slice_set (store_state self.old).marks lane number) }
+        ensures refused { OnErr result ((store_state self.new).marks ≡ (store_state self.old).marks) }
+        ensures next { (store_state self.new).next ≡ (store_state self.old).next }
+        ensures sound { IsTrue (store_state self.new).sound ↔ IsOk result }
+    {
+        // The laws of a raise are those of numbers of 48 bits.
+        prove!(number.get() < 1 << 48);
+        let lanes = self.marks.len();
+        match raise_value(&mut self.memory, lanes, 1 + lane, number) {
+            Ok(()) => {
+                self.marks[lane] = number;
+                Ok(())
+            }
+            Err(fault) => {
+                self.sound = false;
+                Err(fault)
+            }
+        }
+    }
+}
