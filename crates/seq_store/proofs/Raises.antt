@@ -1,12 +1,13 @@
 -- A raise in a memory that a store agrees with, by the laws of the layout alone.
-use Rattle.std.proofs.Common.{◌≡◌, ◌≢◌, ℕ, ◌+◌, ◌^◌, ◌<◌, ◌≤◌, true, List, length, Option, None, Some, refl, sym, ap, subst, ◌∙◌, inl, inr, arith}
-use Rattle.std.specs.Prelude.{slice_index, slice_set, Result, Ok, Err, OnOk}
+use Rattle.std.proofs.Common.{◌≡◌, ◌≢◌, ℕ, ◌+◌, ◌^◌, ◌-◌, ◌<◌, ◌≤◌, min, Bool, true, false, cond, leb-true, leb-false, List, length, Option, None, Some, refl, sym, ap, subst, ◌∙◌, inl, inr, arith}
+use Rattle.std.specs.Prelude.{nat_le, slice_index, slice_set, Result, Ok, Err, OnOk}
 use Rattle.std.proofs.lemmas.Bool.{cases_order}
 use Rattle.std.proofs.lemmas.Grind.{common_steps}
 use Rattle.nvm_model.specs.Nvm.{State, LeavesOnly, Makes, fault_of}
 use Rattle.nvm_model.specs.declared.fault.NvmFault.{NvmFault}
 use Rattle.nvm_model.proofs.Runs.{makes_reached}
 use Rattle.seq_store.specs.Agrees.{Agrees}
+use Rattle.seq_store.specs.Draws.{reservation_for}
 use Rattle.seq_store.specs.Layout.{most_lanes, store_size, value_of, raise_writes}
 use Rattle.seq_store.specs.Laws.{Ready, Restores, IsRaised, IsOldOrRaised, MayRaise}
 use Rattle.seq_store.proofs.Cells.{raises_whole}
@@ -45,6 +46,7 @@ module _ (s : State) (marks : List ℕ) (last : ℕ) (agrees : Agrees s marks la
   agrees_raised lane n b in_range on raised = record {
     powered = on;
     lanes_fit = subst (λ lanes. lanes ≤ most_lanes) (sym same_lanes) agrees.lanes_fit;
+    fits = agrees.fits;
     restores = record {
       size = subst (λ lanes. length b.octets ≡ store_size lanes) (sym same_lanes) raised.ready.size;
       reserved = subst (λ lanes. value_of lanes b.octets 0 ≡ Some last) (sym same_lanes)
@@ -67,16 +69,39 @@ module _ (s : State) (marks : List ℕ) (last : ℕ) (agrees : Agrees s marks la
     ]
 
   -- and after one of the last reserved number
-  pub agrees_reserved : (n : ℕ) (b : State) → b.powered ≡ true → IsRaised (length marks) s.octets 0 n b.octets → Agrees b marks n
-  agrees_reserved n b on raised = record {
+  pub agrees_reserved : (n : ℕ) (b : State) → n < 2 ^ 48 → b.powered ≡ true → IsRaised (length marks) s.octets 0 n b.octets → Agrees b marks n
+  agrees_reserved n b fits on raised = record {
     powered = on;
     lanes_fit = agrees.lanes_fit;
+    fits = fits;
     restores = record {
       size = raised.ready.size;
       reserved = raised.here;
       each = λ lane in_range. raised.others (1 + lane) (omega arith) (λ same. absurd (omega (arith, same))) ∙ agrees.restores.each lane in_range;
     };
   }
+
+  none_raised : IsRaised (length marks) s.octets 0 last s.octets
+  none_raised = record { ready = ready; here = agrees.restores.reserved; others = λ w in_range other. refl }
+
+  -- The number that is restored is the last reserved one.
+  pub last_is : (l : ℕ) → value_of (length marks) s.octets 0 ≡ Some l → l ≡ last
+  last_is l is = cc (sym is ∙ agrees.restores.reserved)
+
+  by_test : (le : Bool) (next : ℕ) (c : List ℕ) → nat_le next last ≡ le → (next ≤ last → c ≡ s.octets)
+      → (last < next → IsRaised (length marks) s.octets 0 (reservation_for last next) c) → IsRaised (length marks) s.octets 0 (reservation_for last next) c
+  by_test true next c test unchanged raised =
+      let here : reservation_for last next ≡ last = ap (λ le. cond le last (min (next + 63) (2 ^ 48 - 1))) test in
+      subst (λ n. IsRaised (length marks) s.octets 0 n c) (sym here)
+      (subst (IsRaised (length marks) s.octets 0 last) (sym (unchanged (leb-true next last test))) none_raised)
+  by_test false next c test unchanged raised = raised (leb-false next last test)
+
+  -- Whether the number was reserved or not, the reservation is the one that it asks for.
+  pub reserved_after : (next : ℕ) (c : List ℕ) → (next ≤ last → c ≡ s.octets)
+      → (last < next → IsRaised (length marks) s.octets 0 (reservation_for last next) c)
+      → (l : ℕ) → value_of (length marks) s.octets 0 ≡ Some l → IsRaised (length marks) s.octets 0 (reservation_for l next) c
+  reserved_after next c unchanged raised l is =
+      subst (λ l. IsRaised (length marks) s.octets 0 (reservation_for l next) c) (sym (last_is l is)) (by_test (nat_le next last) next c refl unchanged raised)
 
 -- Any call that makes the writes of a raise leaves only such images,
 module _ {a b : State} {p q : ℕ → List ℕ → Type 0} (lanes v n : ℕ) (may : MayRaise lanes a.octets v n) where

@@ -1,0 +1,110 @@
+ghost use Rattle.std.specs.Prelude.{◌≡◌, ℕ, ◌+◌, ◌^◌, ◌<◌, ◌≤◌, ◌↔◌, true, Some, None, Err, IsTrue, IsOk, IsNone, IfOk, OnOk, OnErr};
+ghost use Rattle.nvm_model.specs.Nvm.{HasNvmCause, Makes, LeavesOnly, fault_of};
+ghost use Rattle.seq_store.specs.Draws.{reservation_for};
+ghost use Rattle.seq_store.specs.Laws.{restore_reserved, IsRaised, IsOldOrRaised};
+ghost use Rattle.seq_store.specs.Layout.{value_of, raise_writes};
+ghost use Rattle.seq_store.specs.Refusal.{draw_fault};
+ghost use Rattle.seq_store.specs.Store.{store_state, lanes_of};
+
+use crate::layout::raise_value;
+use crate::{DrawFault, SeqStore};
+use knx_base::Number48;
+use nvm_model::{Nvm, NvmFault};
+
+// How many numbers are reserved beyond the one that is drawn.
+const AHEAD: u64 = 63;
+
+impl<M: Nvm> SeqStore<M> {
+    /// Draws the next number. Where it is above the last reserved one, the reservation is raised first, to 63 numbers ahead but not
+    /// beyond the last number of 48 bits, in at most three writes.
+    ///
+    /// A loss of power at any moment leaves the old reservation or the new one, and every mark as it was. Memory comes only where
+    /// the reservation is raised, as the memory answered; the store is then not sound.
+    pub fn draw(&mut self) -> Result<Number48, DrawFault>
+        requires sound { (store_state self.old).sound ≡ true }
+
+        ensures number { IfOk result (λ number. number ≡ (store_state self.old).next) }
+        ensures next { OnOk result ((store_state self.new).next ≡ (store_state self.old).next + 1) }
+        ensures refused { OnErr result ((store_state self.new).next ≡ (store_state self.old).next) }
+        ensures marks { (store_state self.new).marks ≡ (store_state self.old).marks }
+        ensures sound { IsTrue (store_state self.new).sound ↔ IsNone (draw_fault result) }
+        ensures exhausted { (result ≡ Err DrawFault.Exhausted) ↔ ((store_state self.old).next ≡ 2 ^ 48) }
+        ensures unchanged { result ≡ Err DrawFault.Exhausted → store_state self.new ≡ store_state self.old }
+        ensures cause { HasNvmCause (draw_fault result) (M.state (store_state self.old).memory) (M.state (store_state self.new).memory) }
+        ensures few { (M.state (store_state self.new).memory).clock ≤ (M.state (store_state self.old).memory).clock + 3 }
+
+        // Where the number is reserved nothing but the next number changes.
+        ensures is_reserved { (last : ℕ) → restore_reserved (lanes_of (store_state self.old)) (M.state (store_state self.old).memory).octets ≡ Some last
+            → (store_state self.old).next ≤ last → IsOk result × ((store_state self.new).memory ≡ (store_state self.old).memory) }
+
+        // Where it is not the reservation is raised.
+        ensures makes { (last : ℕ) → restore_reserved (lanes_of (store_state self.old)) (M.state (store_state self.old).memory).octets ≡ Some last
+            → last < (store_state self.old).next → (store_state self.old).next < 2 ^ 48
+            → Makes (raise_writes (lanes_of (store_state self.old)) (M.state (store_state self.old).memory).octets 0 (reservation_for last (store_state self.old).next))
+                (draw_fault result) (M.state (store_state self.old).memory) (M.state (store_state self.new).memory)
+                (M.images (store_state self.old).memory) (M.images (store_state self.new).memory) }
+        ensures any_moment { (last : ℕ) → restore_reserved (lanes_of (store_state self.old)) (M.state (store_state self.old).memory).octets ≡ Some last
+            → LeavesOnly (M.state (store_state self.old).memory).clock (M.images (store_state self.old).memory) (M.images (store_state self.new).memory)
+                (IsOldOrRaised (lanes_of (store_state self.old)) (M.state (store_state self.old).memory).octets 0 (reservation_for last (store_state self.old).next)) }
+        ensures reserved { (last : ℕ) → restore_reserved (lanes_of (store_state self.old)) (M.state (store_state self.old).memory).octets ≡ Some last
+            → OnOk result (IsRaised (lanes_of (store_state self.old)) (M.state (store_state self.old).memory).octets 0 (reservation_for last (store_state self.old).next)
+                (M.state (store_state self.new).memory).octets) }
+    {
+        let Some(number) = Number48::new(self.next) else {
+            return Err(DrawFault::Exhausted);
+        };
+        if let Err(fault) = self.reserve(number) {
+            return Err(DrawFault::Memory(fault));
+        }
+        self.next += 1;
+        Ok(number)
+    }
+
+    // Raises the reservation where this number, which is the next, is above it.
+    fn reserve(&mut self, number: Number48) -> Result<(), NvmFault>
+        requires sound { self.old.sound ≡ true }
+        requires next { number ≡ self.old.next }
+
+        ensures unchanged { number ≤ self.old.reserved → IsOk result × (self.new.memory ≡ self.old.memory) }
+        ensures makes { self.old.reserved < number
+            → Makes (raise_writes (lanes_of (store_state self.old)) (M.state self.old.memory).octets 0 (reservation_for self.old.reserved number))
+                (fault_of result) (M.state self.old.memory) (M.state self.new.memory) (M.images self.old.memory) (M.images self.new.memory) }
+        ensures any_moment { self.old.reserved < number → LeavesOnly (M.state self.old.memory).clock (M.images self.old.memory) (M.images self.new.memory)
+            (IsOldOrRaised (lanes_of (store_state self.old)) (M.state self.old.memory).octets 0 (reservation_for self.old.reserved number)) }
+        ensures raised { self.old.reserved < number
+            → OnOk result (IsRaised (lanes_of (store_state self.old)) (M.state self.old.memory).octets 0 (reservation_for self.old.reserved number)
+                (M.state self.new.memory).octets) }
+        ensures few { (M.state self.new.memory).clock ≤ (M.state self.old.memory).clock + 3 }
+        ensures marks { self.new.marks ≡ self.old.marks }
+        ensures next { self.new.next ≡ self.old.next }
+        ensures sound { IsTrue self.new.sound ↔ IsOk result }
+    {
+        if number <= self.reserved {
+            return Ok(());
+        }
+        let reservation = reservation_for(number);
+        let lanes = self.marks.len();
+        match raise_value(&mut self.memory, lanes, 0, reservation) {
+            Ok(()) => {
+                self.reserved = reservation;
+                Ok(())
+            }
+            Err(fault) => {
+                self.sound = false;
+                Err(fault)
+            }
+        }
+    }
+}
+
+// The reservation that a number which is not reserved asks for.
+fn reservation_for(number: Number48) -> Number48
+    ensures ahead { (last : ℕ) → last < number → result ≡ reservation_for last number }
+    ensures above { number ≤ result }
+    ensures fits { result < 2 ^ 48 }
+{
+    match Number48::new(number.get() + AHEAD) {
+        Some(reservation) => reservation,
+        None => Number48::from_bytes([0xff; 6]),
+    }
+}
