@@ -1,3 +1,4 @@
+pub mod Bound
 pub mod Cells
 pub mod Formatting
 pub mod Raises

@@ -1,6 +1,7 @@
-ghost use Rattle.std.specs.Prelude.{◌≡◌, ℕ, ◌+◌, ◌^◌, ◌<◌, ◌≤◌, ◌↔◌, true, Some, None, Err, IsTrue, IsOk, IsNone, IfOk, OnOk, OnErr};
+ghost use Rattle.std.specs.Prelude.{◌≡◌, ℕ, ◌+◌, ◌-◌, ◌*◌, ◌/◌, ◌^◌, ◌<◌, ◌≤◌, ◌↔◌, true, List, length, Some, None, Err, IsTrue, IsOk, IsNone, IfOk, OnOk, OnErr};
+ghost use Rattle.std.specs.List.{sum_by};
 ghost use Rattle.nvm_model.specs.Nvm.{HasNvmCause, Makes, LeavesOnly, fault_of};
-ghost use Rattle.seq_store.specs.Draws.{reservation_for};
+ghost use Rattle.seq_store.specs.Draws.{reservation_for, Drawn, IsDraw, AreDraws};
 ghost use Rattle.seq_store.specs.Laws.{restore_reserved, IsRaised, IsOldOrRaised};
 ghost use Rattle.seq_store.specs.Layout.{value_of, raise_writes};
 ghost use Rattle.seq_store.specs.Refusal.{draw_fault};
@@ -20,6 +21,7 @@ impl<M: Nvm> SeqStore<M> {
     ///
     /// A loss of power at any moment leaves the old reservation or the new one, and every mark as it was. Memory comes only where
     /// the reservation is raised, as the memory answered; the store is then not sound.
+    #[tactic(auto, using(crate::proofs::Bound::draws_bound))]
     pub fn draw(&mut self) -> Result<Number48, DrawFault>
         requires sound { (store_state self.old).sound ≡ true }
 
@@ -49,6 +51,18 @@ impl<M: Nvm> SeqStore<M> {
         ensures reserved { (last : ℕ) → restore_reserved (lanes_of (store_state self.old)) (M.state (store_state self.old).memory).octets ≡ Some last
             → OnOk result (IsRaised (lanes_of (store_state self.old)) (M.state (store_state self.old).memory).octets 0 (reservation_for last (store_state self.old).next)
                 (M.state (store_state self.new).memory).octets) }
+
+        // So draws after a start take few writes, as long as the next number is not raised in between.
+        ensures is_draw { (last new_last : ℕ) → restore_reserved (lanes_of (store_state self.old)) (M.state (store_state self.old).memory).octets ≡ Some last
+            → restore_reserved (lanes_of (store_state self.new)) (M.state (store_state self.new).memory).octets ≡ Some new_last
+            → IsDraw last (store_state self.old).next (record {
+              writes = (M.state (store_state self.new).memory).clock - (M.state (store_state self.old).memory).clock;
+              sound = (store_state self.new).sound;
+              last = new_last;
+              next = (store_state self.new).next;
+            }) }
+        ensures bound { (last : ℕ) (draws : List Drawn) → last < 2 ^ 48 → AreDraws true last (last + 1) draws
+            → sum_by (λ d. d.writes) draws ≤ 3 * (1 + length draws / 64) }
     {
         let Some(number) = Number48::new(self.next) else {
             return Err(DrawFault::Exhausted);
