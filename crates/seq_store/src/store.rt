@@ -2,6 +2,7 @@ ghost use Rattle.std.specs.Prelude.{◌≡◌, ◌≤◌, ◌^◌, true};
 ghost use Rattle.std.proofs.Props.{props};
 ghost use Rattle.seq_store.specs.Agrees.{Agrees};
 
+mod armed;
 mod draw;
 mod raise;
 mod start;
