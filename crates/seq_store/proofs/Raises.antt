@@ -3,13 +3,14 @@ use Rattle.std.proofs.Common.{◌≡◌, ◌≢◌, ℕ, ◌+◌, ◌^◌, ◌-�
 use Rattle.std.specs.Prelude.{nat_le, slice_index, slice_set, Result, Ok, Err, OnOk}
 use Rattle.std.proofs.lemmas.Bool.{cases_order}
 use Rattle.std.proofs.lemmas.Grind.{common_steps}
-use Rattle.nvm_model.specs.Nvm.{State, LeavesOnly, Makes, fault_of}
+use Rattle.nvm_model.specs.Nvm.{State, LeavesOnly, Leaves, Makes}
+use Rattle.nvm_model.specs.Write.{written}
 use Rattle.nvm_model.specs.declared.fault.NvmFault.{NvmFault}
 use Rattle.nvm_model.proofs.Runs.{makes_reached}
 use Rattle.seq_store.specs.Agrees.{Agrees}
 use Rattle.seq_store.specs.Draws.{reservation_for}
 use Rattle.seq_store.specs.Layout.{most_lanes, store_size, value_of, raise_writes}
-use Rattle.seq_store.specs.Laws.{Ready, Restores, IsRaised, IsOldOrRaised, MayRaise}
+use Rattle.seq_store.specs.Laws.{Ready, Restores, IsRaised, IsOldOrRaised, MayRaise, RaisesWhole, Raises}
 use Rattle.seq_store.proofs.Cells.{raises_whole}
 use Rattle.seq_store.proofs.Starts.{restores_ready}
 
@@ -103,20 +104,19 @@ module _ (s : State) (marks : List ℕ) (last : ℕ) (agrees : Agrees s marks la
   reserved_after next c unchanged raised l is =
       subst (λ l. IsRaised (length marks) s.octets 0 (reservation_for l next) c) (sym (last_is l is)) (by_test (nat_le next last) next c refl unchanged raised)
 
--- Any call that makes the writes of a raise leaves only such images,
-module _ {a b : State} {p q : ℕ → List ℕ → Type 0} (lanes v n : ℕ) (may : MayRaise lanes a.octets v n) where
-  pub moments : {answer : Option NvmFault} → Makes (raise_writes lanes a.octets v n) answer a b p q → LeavesOnly a.clock p q (IsOldOrRaised lanes a.octets v n)
-  moments made = λ t image early since. elim (made.images t image early since) [
-    | inl past ↦ inl past
-    | inr reached ↦ inr ((raises_whole lanes v n a.octets may).torn image reached)
-  ]
+-- Any call that makes the writes of a raise does what one does.
+module _ {answer : Option NvmFault} {a b : State} {p q : ℕ → List ℕ → Type 0} (lanes v n : ℕ) (may : MayRaise lanes a.octets v n)
+    (made : Makes (raise_writes lanes a.octets v n) answer a b p q) where
+  laws : RaisesWhole lanes a.octets v n
+  laws = raises_whole lanes v n a.octets may
 
-  -- leaves one of them, whatever it is answered,
-  pub leaves_one : {answer : Option NvmFault} → Makes (raise_writes lanes a.octets v n) answer a b p q → IsOldOrRaised lanes a.octets v n b.octets
-  leaves_one made = (raises_whole lanes v n a.octets may).torn b.octets (makes_reached made)
-
-  -- and leaves the number where it is answered Ok.
-  pub leaves_raised : {T : Type 0} (result : Result T NvmFault) → Makes (raise_writes lanes a.octets v n) (fault_of result) a b p q
-      → OnOk result (IsRaised lanes a.octets v n b.octets)
-  leaves_raised (Ok _) made = subst (IsRaised lanes a.octets v n) (sym made.octets) (raises_whole lanes v n a.octets may).whole
-  leaves_raised (Err _) made = tt
+  pub raises : Raises lanes v n answer a b p q
+  raises = record {
+    makes = made;
+    any_moment = λ t image early since. elim (made.images t image early since) [ inl past ↦ inl past | inr reached ↦ inr (laws.torn image reached) ];
+    now = laws.torn b.octets (makes_reached made);
+    raised = λ done. subst (IsRaised lanes a.octets v n) (sym (whole done)) laws.whole;
+    few = omega (arith, made.few, laws.few.at_most_three);
+  } where
+    whole : answer ≡ None → b.octets ≡ written (raise_writes lanes a.octets v n) a.octets
+    whole done = subst (λ answer. Leaves (raise_writes lanes a.octets v n) answer a.octets b.octets) done made.octets

@@ -1,6 +1,8 @@
 -- What every layout of a memory's numbers keeps, in the names that the layout gives.
 use Rattle.std.specs.Prelude.{◌≡◌, ◌≢◌, ◌⊎◌, ℕ, ◌+◌, ◌^◌, ◌<◌, ◌≤◌, List, length, slice_index, Option, Some, None, IsSome}
 use Rattle.std.specs.List.{All}
+use Rattle.nvm_model.specs.Nvm.{State, Makes, LeavesOnly}
+use Rattle.nvm_model.specs.declared.fault.NvmFault.{NvmFault}
 use Rattle.nvm_model.specs.Write.{FitsIn, written, Reached}
 use Rattle.seq_store.specs.Layout.{most_lanes, store_size, place_of, value_of, raise_writes}
 
@@ -62,3 +64,12 @@ pub record IsUnformattedAt (lanes : ℕ) (image : List ℕ) (place : ℕ) : Type
   pub is_place : place ≡ place_of lanes value
   pub none : value_of lanes image value ≡ None
   pub first : (w : ℕ) → w < value → IsSome (value_of lanes image w)
+
+-- What the raise of this value makes of a memory, whatever it is answered. At each moment the value is the old one or the
+-- number, and after Ok it is the number. It takes at most three writes.
+pub record Raises (lanes v n : ℕ) (answer : Option NvmFault) (old new : State) (past since : ℕ → List ℕ → Type 0) : Type 0 where
+  pub makes : Makes (raise_writes lanes old.octets v n) answer old new past since
+  pub any_moment : LeavesOnly old.clock past since (IsOldOrRaised lanes old.octets v n)
+  pub now : IsOldOrRaised lanes old.octets v n new.octets
+  pub raised : answer ≡ None → IsRaised lanes old.octets v n new.octets
+  pub few : new.clock ≤ old.clock + 3

@@ -1,11 +1,11 @@
 //! Where a memory keeps its numbers. This module alone knows places.
 ghost use Rattle.std.specs.Prelude.{◌≡◌, ◌≢◌, ℕ, ◌+◌, ◌*◌, ◌^◌, ◌<◌, ◌≤◌, true, List,  length, Some, None, Err, All, EachIndex, slice_index, IfOk, OnOk, IsOk};
-ghost use Rattle.nvm_model.specs.Nvm.{Makes, LeavesOnly, Reads, fault_of};
+ghost use Rattle.nvm_model.specs.Nvm.{Makes, Reads, fault_of};
 ghost use Rattle.nvm_model.specs.Plan.{unarmed};
 ghost use Rattle.mark_cells.specs.Cell.{reading};
 ghost use Rattle.seq_store.specs.Refusal.{reading_fault};
-ghost use Rattle.seq_store.specs.Laws.{Ready, Restores, IsRaised, IsOldOrRaised, MayRaise, RaisesWhole};
-ghost use Rattle.seq_store.specs.Layout.{most_lanes, store_size, place_of, value_of, raise_writes, formatted_memory, formatting_writes};
+ghost use Rattle.seq_store.specs.Laws.{Ready, Restores, MayRaise, RaisesWhole, Raises};
+ghost use Rattle.seq_store.specs.Layout.{most_lanes, store_size, place_of, value_of, formatted_memory, formatting_writes};
 
 use crate::StoreFault;
 use knx_base::Number48;
@@ -49,7 +49,7 @@ pub fn read_value<M: Nvm>(
     }
 }
 
-// Raises this value. At each moment it is the old one or the number, and all others are as before.
+// Raises this value.
 pub fn raise_value<M: Nvm>(
     memory: &mut M,
     lanes: usize,
@@ -58,13 +58,8 @@ pub fn raise_value<M: Nvm>(
 ) -> Result<(), NvmFault>
     requires may { MayRaise lanes (M.state memory.old).octets value number }
 
-    ensures makes { Makes (raise_writes lanes (M.state memory.old).octets value number) (fault_of result)
+    ensures { Raises lanes value number (fault_of result)
         (M.state memory.old) (M.state memory.new) (M.images memory.old) (M.images memory.new) }
-    ensures any_moment { LeavesOnly (M.state memory.old).clock (M.images memory.old) (M.images memory.new)
-        (IsOldOrRaised lanes (M.state memory.old).octets value number) }
-    ensures now { IsOldOrRaised lanes (M.state memory.old).octets value number (M.state memory.new).octets }
-    ensures raised { OnOk result (IsRaised lanes (M.state memory.old).octets value number (M.state memory.new).octets) }
-    ensures few { (M.state memory.new).clock ≤ (M.state memory.old).clock + 3 }
 {
     raise_cell(memory, place_of(lanes, value), number)
 }

@@ -1,9 +1,9 @@
 ghost use Rattle.std.specs.Prelude.{◌≡◌, ℕ, ◌+◌, ◌-◌, ◌*◌, ◌/◌, ◌^◌, ◌<◌, ◌≤◌, ◌↔◌, true, List, length, Some, None, Err, IsTrue, IsOk, IsNone, IfOk, OnOk, OnErr};
 ghost use Rattle.std.specs.List.{sum_by};
-ghost use Rattle.nvm_model.specs.Nvm.{HasNvmCause, Makes, LeavesOnly, fault_of};
+ghost use Rattle.nvm_model.specs.Nvm.{HasNvmCause, LeavesOnly, fault_of};
 ghost use Rattle.seq_store.specs.Draws.{reservation_for, Drawn, IsDraw, AreDraws};
-ghost use Rattle.seq_store.specs.Laws.{restore_reserved, IsRaised, IsOldOrRaised};
-ghost use Rattle.seq_store.specs.Layout.{value_of, raise_writes};
+ghost use Rattle.seq_store.specs.Laws.{restore_reserved, IsRaised, IsOldOrRaised, Raises};
+ghost use Rattle.seq_store.specs.Layout.{value_of};
 ghost use Rattle.seq_store.specs.Refusal.{draw_fault};
 ghost use Rattle.seq_store.specs.Store.{store_state, lanes_of};
 
@@ -40,17 +40,22 @@ impl<M: Nvm> SeqStore<M> {
             → (store_state self.old).next ≤ last → IsOk result × ((store_state self.new).memory ≡ (store_state self.old).memory) }
 
         // Where it is not the reservation is raised.
-        ensures makes { (last : ℕ) → restore_reserved (lanes_of (store_state self.old)) (M.state (store_state self.old).memory).octets ≡ Some last
+        ensures reserves { (last : ℕ) → restore_reserved (lanes_of (store_state self.old)) (M.state (store_state self.old).memory).octets ≡ Some last
             → last < (store_state self.old).next → (store_state self.old).next < 2 ^ 48
-            → Makes (raise_writes (lanes_of (store_state self.old)) (M.state (store_state self.old).memory).octets 0 (reservation_for last (store_state self.old).next))
-                (draw_fault result) (M.state (store_state self.old).memory) (M.state (store_state self.new).memory)
+            → Raises (lanes_of (store_state self.old)) 0 (reservation_for last (store_state self.old).next) (draw_fault result)
+                (M.state (store_state self.old).memory) (M.state (store_state self.new).memory)
                 (M.images (store_state self.old).memory) (M.images (store_state self.new).memory) }
+
+        // In both cases each image has the old reservation or the new one and every mark as before, and after Ok the octets have the new one.
         ensures any_moment { (last : ℕ) → restore_reserved (lanes_of (store_state self.old)) (M.state (store_state self.old).memory).octets ≡ Some last
             → LeavesOnly (M.state (store_state self.old).memory).clock (M.images (store_state self.old).memory) (M.images (store_state self.new).memory)
                 (IsOldOrRaised (lanes_of (store_state self.old)) (M.state (store_state self.old).memory).octets 0 (reservation_for last (store_state self.old).next)) }
         ensures reserved { (last : ℕ) → restore_reserved (lanes_of (store_state self.old)) (M.state (store_state self.old).memory).octets ≡ Some last
             → OnOk result (IsRaised (lanes_of (store_state self.old)) (M.state (store_state self.old).memory).octets 0 (reservation_for last (store_state self.old).next)
                 (M.state (store_state self.new).memory).octets) }
+        // So a start at any time later goes on above every number that was drawn.
+        ensures covered { (last : ℕ) → restore_reserved (lanes_of (store_state self.new)) (M.state (store_state self.new).memory).octets ≡ Some last
+            → IfOk result (λ number. number ≤ last) }
 
         // So draws after a start take few writes, as long as the next number is not raised in between.
         ensures is_draw { (last new_last : ℕ) → restore_reserved (lanes_of (store_state self.old)) (M.state (store_state self.old).memory).octets ≡ Some last
@@ -80,14 +85,9 @@ impl<M: Nvm> SeqStore<M> {
         requires next { number ≡ self.old.next }
 
         ensures unchanged { number ≤ self.old.reserved → IsOk result × (self.new.memory ≡ self.old.memory) }
-        ensures makes { self.old.reserved < number
-            → Makes (raise_writes (lanes_of (store_state self.old)) (M.state self.old.memory).octets 0 (reservation_for self.old.reserved number))
-                (fault_of result) (M.state self.old.memory) (M.state self.new.memory) (M.images self.old.memory) (M.images self.new.memory) }
-        ensures any_moment { self.old.reserved < number → LeavesOnly (M.state self.old.memory).clock (M.images self.old.memory) (M.images self.new.memory)
-            (IsOldOrRaised (lanes_of (store_state self.old)) (M.state self.old.memory).octets 0 (reservation_for self.old.reserved number)) }
-        ensures raised { self.old.reserved < number
-            → OnOk result (IsRaised (lanes_of (store_state self.old)) (M.state self.old.memory).octets 0 (reservation_for self.old.reserved number)
-                (M.state self.new.memory).octets) }
+        ensures raises { self.old.reserved < number
+            → Raises (lanes_of (store_state self.old)) 0 (reservation_for self.old.reserved number) (fault_of result)
+                (M.state self.old.memory) (M.state self.new.memory) (M.images self.old.memory) (M.images self.new.memory) }
         ensures few { (M.state self.new.memory).clock ≤ (M.state self.old.memory).clock + 3 }
         ensures marks { self.new.marks ≡ self.old.marks }
         ensures next { self.new.next ≡ self.old.next }

@@ -1,7 +1,6 @@
 ghost use Rattle.std.specs.Prelude.{◌≡◌, ◌+◌, ◌<◌, ◌≤◌, ◌↔◌, true, length, slice_index, slice_set, IsTrue, IsOk, OnOk, OnErr};
-ghost use Rattle.nvm_model.specs.Nvm.{Makes, LeavesOnly, fault_of};
-ghost use Rattle.seq_store.specs.Laws.{IsRaised, IsOldOrRaised};
-ghost use Rattle.seq_store.specs.Layout.{raise_writes};
+ghost use Rattle.nvm_model.specs.Nvm.{fault_of};
+ghost use Rattle.seq_store.specs.Laws.{Raises};
 ghost use Rattle.seq_store.specs.Store.{store_state, lanes_of};
 
 use crate::SeqStore;
@@ -19,19 +18,9 @@ impl<M: Nvm> SeqStore<M> {
         requires in_range { lane < lanes_of (store_state self.old) }
         requires above { slice_index (store_state self.old).marks lane < number }
 
-        ensures makes { Makes (raise_writes (lanes_of (store_state self.old)) (M.state (store_state self.old).memory).octets (1 + lane) number) (fault_of result)
+        ensures raises { Raises (lanes_of (store_state self.old)) (1 + lane) number (fault_of result)
             (M.state (store_state self.old).memory) (M.state (store_state self.new).memory)
             (M.images (store_state self.old).memory) (M.images (store_state self.new).memory) }
-        ensures any_moment { LeavesOnly (M.state (store_state self.old).memory).clock
-            (M.images (store_state self.old).memory) (M.images (store_state self.new).memory)
-            (IsOldOrRaised (lanes_of (store_state self.old)) (M.state (store_state self.old).memory).octets (1 + lane) number) }
-        // What is there now is one of those images.
-        ensures now { IsOldOrRaised (lanes_of (store_state self.old)) (M.state (store_state self.old).memory).octets (1 + lane) number
-            (M.state (store_state self.new).memory).octets }
-        ensures raised { OnOk result (IsRaised (lanes_of (store_state self.old)) (M.state (store_state self.old).memory).octets (1 + lane) number
-            (M.state (store_state self.new).memory).octets) }
-        ensures few { (M.state (store_state self.new).memory).clock ≤ (M.state (store_state self.old).memory).clock + 3 }
-
         ensures marks { OnOk result ((store_state self.new).marks ≡ slice_set (store_state self.old).marks lane number) }
         ensures refused { OnErr result ((store_state self.new).marks ≡ (store_state self.old).marks) }
         ensures next { (store_state self.new).next ≡ (store_state self.old).next }

@@ -1,5 +1,7 @@
-ghost use Rattle.std.specs.Prelude.{◌≡◌, ◌+◌, ◌<◌, length, max, slice_index};
-ghost use Rattle.seq_store.specs.Store.{store_state};
+ghost use Rattle.std.specs.Prelude.{◌≡◌, ℕ, ◌+◌, ◌^◌, ◌<◌, ◌≤◌, true, Some, max, slice_index, IsTrue};
+ghost use Rattle.seq_store.specs.Laws.{restore, Ready};
+ghost use Rattle.seq_store.specs.Layout.{value_of};
+ghost use Rattle.seq_store.specs.Store.{store_state, lanes_of};
 
 use crate::SeqStore;
 use knx_base::Number48;
@@ -8,7 +10,7 @@ use nvm_model::Nvm;
 impl<M: Nvm> SeqStore<M> {
     /// The mark of a lane.
     pub fn mark(&self, lane: usize) -> Number48
-        requires in_range { lane < length (store_state self.now).marks }
+        requires in_range { lane < lanes_of (store_state self.now) }
         ensures mark { result ≡ slice_index (store_state self.now).marks lane }
     {
         self.marks[lane]
@@ -17,13 +19,18 @@ impl<M: Nvm> SeqStore<M> {
     /// The number that the next draw gives, or 2^48 where all are drawn.
     pub fn next(&self) -> u64
         ensures next { result ≡ (store_state self.now).next }
+        ensures fits { result ≤ 2 ^ 48 }
     {
         self.next
     }
 
-    /// Whether no call of the memory has failed.
+    /// Whether no call of the memory has failed. While none has, power is on, and the memory restores the marks.
     pub fn is_sound(&self) -> bool
         ensures sound { result ≡ (store_state self.now).sound }
+        ensures powered { IsTrue result → (M.state (store_state self.now).memory).powered ≡ true }
+        ensures ready { IsTrue result → Ready (lanes_of (store_state self.now)) (M.state (store_state self.now).memory).octets }
+        ensures restores { IsTrue result → (lane : ℕ) → lane < lanes_of (store_state self.now)
+            → restore (lanes_of (store_state self.now)) (M.state (store_state self.now).memory).octets lane ≡ Some (slice_index (store_state self.now).marks lane) }
     {
         self.sound
     }

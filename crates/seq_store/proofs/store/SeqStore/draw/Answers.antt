@@ -1,4 +1,4 @@
-use Rattle.std.proofs.Common.{◌≡◌, ◌≤◌, ◌<◌, length, ap, ◌∙◌, arith}
+use Rattle.std.proofs.Common.{refl, ap, ◌∙◌, arith}
 use Rattle.seq_store.specs.Draws.{reservation_for}
 use Rattle.seq_store.specs.Laws.{IsRaised}
 use Rattle.seq_store.proofs.Raises.{last_is, reserved_after}
@@ -7,4 +7,4 @@ use Rattle.seq_store.proofs.store.SeqStore.draw.Goals as goal
 pub returns-clause-reserved : goal.returns-clause-reserved
 returns-clause-reserved g c =
     reserved_after _ c.args.self.now.marks.items c.args.self.now.reserved (c.args.self.now.agrees c.requires.sound) c.args.self.now.next _
-    (λ below. ap (λ m. (g.M.Nvm.state m).octets) ((rw c.in-Some.ensures.value at c.in_default-reserve.ensures.unchanged) below).1) (rw c.in-Some.ensures.value at c.in_default-reserve.ensures.raised)
+    (λ below. ap (λ m. (g.M.Nvm.state m).octets) ((rw c.in-Some.ensures.value at c.in_default-reserve.ensures.unchanged) below).1) (λ above. ((rw c.in-Some.ensures.value at c.in_default-reserve.ensures.raises) above).raised refl)
