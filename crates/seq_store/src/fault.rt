@@ -1,3 +1,6 @@
+ghost use Rattle.std.specs.Prelude.{◌≡◌};
+ghost use Rattle.seq_store.specs.declared.fault.DrawFault.TheVariants.{Memory};
+
 use nvm_model::NvmFault;
 
 /// Why a store was not started.
@@ -25,4 +28,12 @@ pub enum DrawFault {
     Exhausted,
     /// The reservation was not raised.
     Memory(NvmFault),
+}
+
+impl From<NvmFault> for DrawFault {
+    ghost from_gives = { λ fault e. e ≡ Memory fault };
+
+    fn from(fault: NvmFault) -> DrawFault {
+        DrawFault::Memory(fault)
+    }
 }

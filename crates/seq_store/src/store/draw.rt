@@ -72,9 +72,7 @@ impl<M: Nvm> SeqStore<M> {
         let Some(number) = Number48::new(self.next) else {
             return Err(DrawFault::Exhausted);
         };
-        if let Err(fault) = self.reserve(number) {
-            return Err(DrawFault::Memory(fault));
-        }
+        self.reserve(number)?;
         self.next += 1;
         Ok(number)
     }

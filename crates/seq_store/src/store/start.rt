@@ -20,7 +20,7 @@ impl<M: Nvm> SeqStore<M> {
     pub fn start(
         alloc: Global,
         lanes: usize,
-        memory: M,
+        mut memory: M,
     ) -> Result<SeqStore<M>, StoreRefused<M>>
         requires size { length (M.state memory).octets ≡ store_size lanes }
         requires lanes_fit { lanes ≤ most_lanes }
@@ -40,7 +40,6 @@ impl<M: Nvm> SeqStore<M> {
             (M.state memory) (M.state refused.memory) (M.images memory) (M.images refused.memory)) }
         ensures unread { IfErr result (λ refused. refused.fault ≡ StoreFault.NoMemory → refused.memory ≡ memory) }
     {
-        let mut memory = memory;
         let zero = Number48::from_bytes([0; 6]);
         let Ok(mut marks) = vec![in alloc; zero; lanes] else {
             return Err(StoreRefused {
@@ -78,8 +77,8 @@ fn read_values<M: Nvm>(
 {
     let lanes = marks.len();
     let reserved = read_value(memory, lanes, 0)?;
-    for lane in 0..lanes {
-        marks[lane] = read_value(memory, lanes, 1 + lane)?;
+    for (lane, mark) in marks.iter_mut().enumerate() {
+        *mark = read_value(memory, lanes, 1 + lane)?;
     }
     Ok(reserved)
 }
