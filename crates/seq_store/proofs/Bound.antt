@@ -1,5 +1,5 @@
 -- How many writes draws take.
-use Rattle.std.proofs.Common.{◌≡◌, ◌⊎◌, ℕ, ◌+◌, ◌-◌, ◌*◌, ◌/◌, ◌^◌, ◌<◌, ◌≤◌, min, Bool, true, false, cond, List, [], ◌∷◌, length, map, refl, sym, ap, subst, ◌∙◌, inl, inr, arith, leb-true, leb-false}
+use Rattle.std.proofs.Common.{◌≡◌, ℕ, ◌+◌, ◌-◌, ◌*◌, ◌/◌, ◌^◌, ◌<◌, ◌≤◌, min, Bool, true, false, cond, List, [], ◌∷◌, length, refl, ap, subst, ◌∙◌, inl, inr, arith, leb-true, leb-false}
 use Rattle.std.specs.Prelude.{nat_le}
 use Rattle.std.specs.List.{sum_by}
 use Rattle.std.proofs.lemmas.Bool.{cases_order}
@@ -77,8 +77,11 @@ none_more (d ∷ rest) sound last next most fits are =
     writes_more d rest ∙ elim (cases_order next (2 ^ 48)) [
       | inl end ↦ let after = are.1.exhausted end in omega (arith, after, none_more rest d.sound d.last d.next (after.2 ∙ most) (omega (arith, after)) are.2)
       | inr apart ↦ elim apart [
-        | inl below ↦ omega (arith, are.1.none_where_reserved (omega arith),
-          none_behind d rest last next are.1 are.2 below most (λ is fits. none_more rest d.sound d.last d.next is fits are.2) d.sound refl)
+        | inl below ↦ omega (
+          arith,
+          are.1.none_where_reserved (omega arith),
+          none_behind d rest last next are.1 are.2 below most (λ is fits. none_more rest d.sound d.last d.next is fits are.2) d.sound refl,
+        )
         | inr beyond ↦ absurd (omega arith)
       ]
     ]
@@ -89,16 +92,24 @@ few_writes : (draws : List Drawn) (sound : Bool) (last next : ℕ) → last < 2 
 few_writes [] sound last next fits near are = omega arith
 few_writes (d ∷ rest) sound last next fits near are = elim (cases_order next (2 ^ 48)) [
   | inl end ↦
-    let after = are.1.exhausted end in
-    omega (arith, writes_more d rest, after, few_writes rest d.sound d.last d.next (omega (arith, after)) (omega (arith, after)) are.2)
+      let after = are.1.exhausted end in
+      omega (arith, writes_more d rest, after, few_writes rest d.sound d.last d.next (omega (arith, after)) (omega (arith, after)) are.2)
   | inr apart ↦ elim apart [
     | inl below ↦ elim (cases_order next (last + 1)) [
-      | inl first ↦ omega (arith, writes_more d rest, are.1.few,
+      | inl first ↦ omega (
+        arith,
+        writes_more d rest,
+        are.1.few,
         ahead d rest last next are.1 are.2 below first (λ fits near. few_writes rest d.sound d.last d.next fits near are.2)
-        (λ is fits. none_more rest d.sound d.last d.next is fits are.2) d.sound refl)
+            (λ is fits. none_more rest d.sound d.last d.next is fits are.2) d.sound refl,
+      )
       | inr other ↦ elim other [
-        | inl reserved ↦ omega (arith, writes_more d rest, are.1.none_where_reserved (omega arith),
-          kept d rest last next are.1 are.2 below (omega arith) fits (λ fits near. few_writes rest d.sound d.last d.next fits near are.2) d.sound refl)
+        | inl reserved ↦ omega (
+          arith,
+          writes_more d rest,
+          are.1.none_where_reserved (omega arith),
+          kept d rest last next are.1 are.2 below (omega arith) fits (λ fits near. few_writes rest d.sound d.last d.next fits near are.2) d.sound refl,
+        )
         | inr beyond ↦ absurd (omega arith)
       ]
     ]

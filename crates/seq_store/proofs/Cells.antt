@@ -1,14 +1,13 @@
 -- The laws of a raise, where each value has a cell of its own. Here, and in the answers of src/layout.rt, places are known.
-use Rattle.std.proofs.Common.{◌≡◌, ◌≢◌, ◌⊎◌, ℕ, ◌+◌, ◌*◌, ◌^◌, ◌<◌, ◌≤◌, true, List, [], ◌∷◌, ◌++◌, length, Option, None, Some, refl, sym, ap, subst, ◌∙◌, inl, inr, arith, length-append}
-use Rattle.std.specs.Prelude.{is_some, IsSome}
-use Rattle.std.specs.List.{All}
+use Rattle.std.proofs.Common.{◌≡◌, ◌≢◌, ◌⊎◌, ℕ, ◌+◌, ◌*◌, ◌≤◌, List, length, Some, refl, sym, subst, ◌∙◌, inl, inr, arith}
+use Rattle.std.specs.Prelude.{IsSome}
 use Rattle.std.proofs.lemmas.Bool.{cases_order}
-use Rattle.nvm_model.specs.Write.{FitsIn, written, Torn, Reached}
+use Rattle.nvm_model.specs.Write.{written, Reached}
 use Rattle.nvm_model.proofs.Lists.{reached_whole}
-use Rattle.mark_cells.specs.Cell.{reading, cell_writes, ReadsBelow, IsOldOrNew}
+use Rattle.mark_cells.specs.Cell.{ReadsBelow, IsOldOrNew}
 use Rattle.mark_cells.proofs.Cells.{reading_outside, raise_moment, raise_whole, cell_writes_few, cell_writes_fit}
-use Rattle.seq_store.specs.Layout.{most_lanes, store_size, place_of, value_of, raise_writes}
-use Rattle.seq_store.specs.Laws.{Ready, IsRaised, IsOldOrRaised, MayRaise, HasFewWrites, RaisesWhole}
+use Rattle.seq_store.specs.Layout.{store_size, value_of, raise_writes}
+use Rattle.seq_store.specs.Laws.{Ready, IsOldOrRaised, MayRaise, HasFewWrites, RaisesWhole}
 
 -- cells of two values do not overlap
 apart : (v w : ℕ) → w ≢ v → (14 * v + 14 ≤ 14 * w) ⊎ (14 * w + 14 ≤ 14 * v)
@@ -45,8 +44,8 @@ module _ (lanes v n : ℕ) (image : List ℕ) (may : MayRaise lanes image v n) w
         | inr new ↦ subst IsSome (sym new) refl
       ])
       | inr rest ↦
-        let other : w ≢ v = λ same. elim rest [ inl below ↦ absurd (omega arith) | inr above ↦ absurd (omega arith) ] in
-        subst IsSome (sym (others w in_range other)) (may.ready.values w in_range)
+          let other : w ≢ v = λ same. elim rest [ inl below ↦ absurd (omega arith) | inr above ↦ absurd (omega arith) ] in
+          subst IsSome (sym (others w in_range other)) (may.ready.values w in_range)
     ]
 
     ready : Ready lanes c

@@ -1,12 +1,12 @@
 -- A memory that is formatted, where each value has a cell of its own.
-use Rattle.std.proofs.Common.{◌≡◌, ℕ, ◌+◌, ◌*◌, ◌^◌, ◌<◌, ◌≤◌, zero, suc, true, List, [], ◌∷◌, ◌++◌, length, take, drop, Option, None, Some, refl, sym, ap, subst, ◌∙◌, inl, inr, arith, length-append, length-drop, length-take-le, append_assoc, append-nil, add_assoc, zero-add, add-zero, add-one}
-use Rattle.std.specs.Prelude.{is_some, IsSome, slice_index, Result, Ok, Err, OnOk}
+use Rattle.std.proofs.Common.{◌≡◌, ℕ, ◌+◌, ◌*◌, ◌^◌, ◌<◌, zero, suc, List, [], ◌∷◌, ◌++◌, length, take, drop, Option, None, Some, refl, sym, ap, subst, ◌∙◌, arith, length-append, length-drop, length-take-le, append_assoc, append-nil, zero-add, add-zero}
+use Rattle.std.specs.Prelude.{slice_index, Result, Ok, Err, OnOk}
 use Rattle.std.specs.List.{All}
 use Rattle.std.proofs.Math.Seq.{take-append_seam, drop-append-add}
 use Rattle.std.proofs.lemmas.Grind.{common_steps}
 use Rattle.std.proofs.lemmas.List.{take_more, take-append-drop}
 use Rattle.nvm_model.specs.Nvm.{State, Makes, fault_of}
-use Rattle.nvm_model.specs.Write.{Write, put, written}
+use Rattle.nvm_model.specs.Write.{put, written}
 use Rattle.nvm_model.specs.declared.fault.NvmFault.{NvmFault}
 use Rattle.nvm_model.proofs.Runs.{makes_goes_on, makes_stops}
 use Rattle.mark_cells.specs.Cell.{reading, formatted, format_writes}

@@ -1,16 +1,16 @@
 -- A raise in a memory that a store agrees with, by the laws of the layout alone.
 use Rattle.std.proofs.Common.{◌≡◌, ◌≢◌, ℕ, ◌+◌, ◌^◌, ◌-◌, ◌<◌, ◌≤◌, min, Bool, true, false, cond, leb-true, leb-false, List, length, Option, None, Some, refl, sym, ap, subst, ◌∙◌, inl, inr, arith}
-use Rattle.std.specs.Prelude.{nat_le, slice_index, slice_set, Result, Ok, Err, OnOk}
+use Rattle.std.specs.Prelude.{nat_le, slice_index, slice_set}
 use Rattle.std.proofs.lemmas.Bool.{cases_order}
 use Rattle.std.proofs.lemmas.Grind.{common_steps}
-use Rattle.nvm_model.specs.Nvm.{State, LeavesOnly, Leaves, Makes}
+use Rattle.nvm_model.specs.Nvm.{State, Leaves, Makes}
 use Rattle.nvm_model.specs.Write.{written}
 use Rattle.nvm_model.specs.declared.fault.NvmFault.{NvmFault}
 use Rattle.nvm_model.proofs.Runs.{makes_reached}
 use Rattle.seq_store.specs.Agrees.{Agrees}
 use Rattle.seq_store.specs.Draws.{reservation_for}
 use Rattle.seq_store.specs.Layout.{most_lanes, store_size, value_of, raise_writes}
-use Rattle.seq_store.specs.Laws.{Ready, Restores, IsRaised, IsOldOrRaised, MayRaise, RaisesWhole, Raises}
+use Rattle.seq_store.specs.Laws.{Ready, IsRaised, MayRaise, RaisesWhole, Raises}
 use Rattle.seq_store.proofs.Cells.{raises_whole}
 use Rattle.seq_store.proofs.Starts.{restores_ready}
 
@@ -19,9 +19,9 @@ module _ (s : State) (marks : List ℕ) (last : ℕ) (agrees : Agrees s marks la
   ready = restores_ready s.octets last marks agrees.restores
 
   -- a mark, and the last reserved number, may be raised
-  pub may_raise : (lane n : ℕ) → lane < length marks → slice_index marks lane < n → n < 2 ^ 48 → MayRaise (length marks) s.octets (1 + lane) n
-  may_raise lane n in_range above fits = record {
-    lanes_fit = agrees.lanes_fit;
+  pub may_raise : (lane n : ℕ) → length marks ≤ most_lanes → lane < length marks → slice_index marks lane < n → n < 2 ^ 48 → MayRaise (length marks) s.octets (1 + lane) n
+  may_raise lane n lanes_fit in_range above fits = record {
+    lanes_fit = lanes_fit;
     ready = ready;
     in_range = omega arith;
     old = slice_index marks lane;
@@ -30,9 +30,9 @@ module _ (s : State) (marks : List ℕ) (last : ℕ) (agrees : Agrees s marks la
     fits = fits;
   }
 
-  pub may_reserve : (n : ℕ) → last < n → n < 2 ^ 48 → MayRaise (length marks) s.octets 0 n
-  may_reserve n above fits = record {
-    lanes_fit = agrees.lanes_fit;
+  pub may_reserve : (n : ℕ) → length marks ≤ most_lanes → last < n → n < 2 ^ 48 → MayRaise (length marks) s.octets 0 n
+  may_reserve n lanes_fit above fits = record {
+    lanes_fit = lanes_fit;
     ready = ready;
     in_range = omega arith;
     old = last;
@@ -46,7 +46,6 @@ module _ (s : State) (marks : List ℕ) (last : ℕ) (agrees : Agrees s marks la
       → IsRaised (length marks) s.octets (1 + lane) n b.octets → Agrees b (slice_set marks lane n) last
   agrees_raised lane n b in_range on raised = record {
     powered = on;
-    lanes_fit = subst (λ lanes. lanes ≤ most_lanes) (sym same_lanes) agrees.lanes_fit;
     fits = agrees.fits;
     restores = record {
       size = subst (λ lanes. length b.octets ≡ store_size lanes) (sym same_lanes) raised.ready.size;
@@ -64,16 +63,15 @@ module _ (s : State) (marks : List ℕ) (last : ℕ) (agrees : Agrees s marks la
       | inl same ↦ subst (λ k. value_of (length marks) b.octets (1 + k) ≡ Some (slice_index (slice_set marks lane n) k)) (sym same)
           (raised.here ∙ ap Some (grind (arith, common_steps)))
       | inr apart ↦
-        let not_same : other ≢ lane = λ same. elim apart [ inl below ↦ absurd (omega arith) | inr above ↦ absurd (omega arith) ] in
-        raised.others (1 + other) (omega arith) (λ same. not_same (omega (arith, same)))
-        ∙ agrees.restores.each other h ∙ ap Some (grind (arith, common_steps))
+          let not_same : other ≢ lane = λ same. elim apart [ inl below ↦ absurd (omega arith) | inr above ↦ absurd (omega arith) ] in
+          raised.others (1 + other) (omega arith) (λ same. not_same (omega (arith, same)))
+          ∙ agrees.restores.each other h ∙ ap Some (grind (arith, common_steps))
     ]
 
   -- and after one of the last reserved number
   pub agrees_reserved : (n : ℕ) (b : State) → n < 2 ^ 48 → b.powered ≡ true → IsRaised (length marks) s.octets 0 n b.octets → Agrees b marks n
   agrees_reserved n b fits on raised = record {
     powered = on;
-    lanes_fit = agrees.lanes_fit;
     fits = fits;
     restores = record {
       size = raised.ready.size;

@@ -1,5 +1,5 @@
 -- What a memory restores, and where it is not formatted.
-use Rattle.std.proofs.Common.{◌≡◌, ℕ, ◌+◌, ◌<◌, ◌≤◌, zero, suc, true, false, List, length, Option, None, Some, refl, sym, ap, subst, ◌∙◌, inl, inr, arith}
+use Rattle.std.proofs.Common.{◌≡◌, ℕ, ◌+◌, ◌<◌, ◌≤◌, zero, suc, true, List, length, Option, None, Some, refl, sym, ap, subst, ◌∙◌, inl, inr, arith}
 use Rattle.std.proofs.lemmas.Bool.{cases_order}
 use Rattle.std.specs.Prelude.{is_some, IsSome, slice_index, ◌↔◌}
 use Rattle.seq_store.specs.Layout.{place_of, value_of}
@@ -15,7 +15,6 @@ restores_ready image last marks restores = record { size = restores.size; values
   values zero in_range = subst IsSome (sym restores.reserved) refl
   values (suc lane) in_range = subst (λ v. IsSome (value_of (length marks) image v)) (omega arith)
       (subst IsSome (sym (restores.each lane (omega (arith, in_range)))) refl)
-
 
 -- what has no value is not there
 none_some : {o : Option ℕ} → o ≡ None → IsSome o → ⊥

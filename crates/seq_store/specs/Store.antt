@@ -1,6 +1,5 @@
 -- What a store shows.
-use Rattle.std.specs.Prelude.{◌≡◌, ℕ, ◌+◌, ◌≤◌, ◌^◌, Bool, true, List, length, min, nat_le, if◌then◌else◌, Option, None, Some, Result, Ok, Err}
-use Rattle.nvm_model.specs.declared.fault.NvmFault.{NvmFault}
+use Rattle.std.specs.Prelude.{ℕ, Bool, List, length}
 use Rattle.seq_store.specs.declared.store.SeqStore.{SeqStore}
 
 -- its memory, the marks of its lanes, its next number, and whether no call of its memory has failed

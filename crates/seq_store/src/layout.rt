@@ -1,5 +1,5 @@
 //! Where a memory keeps its numbers. This module alone knows places.
-ghost use Rattle.std.specs.Prelude.{◌≡◌, ◌≢◌, ℕ, ◌+◌, ◌*◌, ◌^◌, ◌<◌, ◌≤◌, true, List,  length, Some, None, Err, All, EachIndex, slice_index, IfOk, OnOk, IsOk};
+ghost use Rattle.std.specs.Prelude.{◌≡◌, ◌≢◌, ℕ, ◌+◌, ◌*◌, ◌^◌, ◌<◌, ◌≤◌, true, List, length, Some, None, Err, All, EachIndex, slice_index, IfOk, OnOk, IsOk};
 ghost use Rattle.nvm_model.specs.Nvm.{Makes, Reads, fault_of};
 ghost use Rattle.nvm_model.specs.Plan.{unarmed};
 ghost use Rattle.mark_cells.specs.Cell.{reading};
@@ -73,9 +73,9 @@ pub fn stored_value(image: &[u8], lanes: usize, value: usize) -> Option<Number48
     ensures value { result ≡ value_of lanes image.now value }
     ensures raises { (n : ℕ) → MayRaise lanes image.now value n → RaisesWhole lanes image.now value n }
 {
-    let place = place_of(lanes, value);
+    let at = place_of(lanes, value);
     let mut cell = [0; CELL_SIZE];
-    cell.copy_from_slice(&image[place..place + CELL_SIZE]);
+    cell.copy_from_slice(&image[at..at + CELL_SIZE]);
     cell_reading(&cell)
 }
 

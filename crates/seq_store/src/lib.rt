@@ -4,6 +4,8 @@
 mod fault;
 mod layout;
 mod store;
+#[cfg(test)]
+mod tests;
 
 pub use fault::{DrawFault, StoreFault, StoreRefused};
 pub use layout::{format_store, stored_value};

@@ -1,6 +1,7 @@
-ghost use Rattle.std.specs.Prelude.{◌≡◌, ◌≤◌, ◌^◌, true};
+ghost use Rattle.std.specs.Prelude.{◌≡◌, ◌≤◌, ◌^◌, true, length};
 ghost use Rattle.std.proofs.Props.{props};
 ghost use Rattle.seq_store.specs.Agrees.{Agrees};
+ghost use Rattle.seq_store.specs.Layout.{most_lanes, store_size};
 
 mod armed;
 mod draw;
@@ -21,4 +22,6 @@ pub struct SeqStore<M: Nvm> {
     sound: bool,
     ghost agrees: { sound ≡ true → Agrees (M.state memory) marks.items reserved } by { Prim.hlevel props },
     ghost next_fits: { next ≤ 2 ^ 48 },
+    ghost lanes_fit: { length marks.items ≤ most_lanes },
+    ghost size: { length (M.state memory).octets ≡ store_size (length marks.items) },
 }

@@ -43,16 +43,16 @@ impl<M: Nvm> SeqStore<M> {
         ensures reserves { (last : ℕ) → restore_reserved (lanes_of (store_state self.old)) (M.state (store_state self.old).memory).octets ≡ Some last
             → last < (store_state self.old).next → (store_state self.old).next < 2 ^ 48
             → Raises (lanes_of (store_state self.old)) 0 (reservation_for last (store_state self.old).next) (draw_fault result)
-                (M.state (store_state self.old).memory) (M.state (store_state self.new).memory)
-                (M.images (store_state self.old).memory) (M.images (store_state self.new).memory) }
+            (M.state (store_state self.old).memory) (M.state (store_state self.new).memory)
+            (M.images (store_state self.old).memory) (M.images (store_state self.new).memory) }
 
         // In both cases each image has the old reservation or the new one and every mark as before, and after Ok the octets have the new one.
         ensures any_moment { (last : ℕ) → restore_reserved (lanes_of (store_state self.old)) (M.state (store_state self.old).memory).octets ≡ Some last
             → LeavesOnly (M.state (store_state self.old).memory).clock (M.images (store_state self.old).memory) (M.images (store_state self.new).memory)
-                (IsOldOrRaised (lanes_of (store_state self.old)) (M.state (store_state self.old).memory).octets 0 (reservation_for last (store_state self.old).next)) }
+            (IsOldOrRaised (lanes_of (store_state self.old)) (M.state (store_state self.old).memory).octets 0 (reservation_for last (store_state self.old).next)) }
         ensures reserved { (last : ℕ) → restore_reserved (lanes_of (store_state self.old)) (M.state (store_state self.old).memory).octets ≡ Some last
             → OnOk result (IsRaised (lanes_of (store_state self.old)) (M.state (store_state self.old).memory).octets 0 (reservation_for last (store_state self.old).next)
-                (M.state (store_state self.new).memory).octets) }
+            (M.state (store_state self.new).memory).octets) }
         // So a start at any time later goes on above every number that was drawn.
         ensures covered { (last : ℕ) → restore_reserved (lanes_of (store_state self.new)) (M.state (store_state self.new).memory).octets ≡ Some last
             → IfOk result (λ number. number ≤ last) }
@@ -85,7 +85,7 @@ impl<M: Nvm> SeqStore<M> {
         ensures unchanged { number ≤ self.old.reserved → IsOk result × (self.new.memory ≡ self.old.memory) }
         ensures raises { self.old.reserved < number
             → Raises (lanes_of (store_state self.old)) 0 (reservation_for self.old.reserved number) (fault_of result)
-                (M.state self.old.memory) (M.state self.new.memory) (M.images self.old.memory) (M.images self.new.memory) }
+            (M.state self.old.memory) (M.state self.new.memory) (M.images self.old.memory) (M.images self.new.memory) }
         ensures few { (M.state self.new.memory).clock ≤ (M.state self.old.memory).clock + 3 }
         ensures marks { self.new.marks ≡ self.old.marks }
         ensures next { self.new.next ≡ self.old.next }

@@ -17,11 +17,7 @@ impl<M: Nvm> SeqStore<M> {
     ///
     /// A refusal hands the memory back. NoMemory comes before anything is read. Memory comes only as a read answered. Unformatted
     /// comes exactly where the memory lacks a value and no read was refused.
-    pub fn start(
-        alloc: Global,
-        lanes: usize,
-        mut memory: M,
-    ) -> Result<SeqStore<M>, StoreRefused<M>>
+    pub fn start(alloc: Global, lanes: usize, mut memory: M) -> Result<SeqStore<M>, StoreRefused<M>>
         requires size { length (M.state memory).octets ≡ store_size lanes }
         requires lanes_fit { lanes ≤ most_lanes }
 
@@ -61,10 +57,7 @@ impl<M: Nvm> SeqStore<M> {
 }
 
 // Reads the marks of all lanes, and gives the last reserved number.
-fn read_values<M: Nvm>(
-    memory: &mut M,
-    marks: &mut [Number48],
-) -> Result<Number48, StoreFault>
+fn read_values<M: Nvm>(memory: &mut M, marks: &mut [Number48]) -> Result<Number48, StoreFault>
     requires size { length (M.state memory.old).octets ≡ store_size (length marks.old) }
     requires lanes_fit { length marks.old ≤ most_lanes }
 

@@ -1,6 +1,6 @@
-ghost use Rattle.std.specs.Prelude.{◌≡◌, ℕ, ◌+◌, ◌^◌, ◌<◌, ◌≤◌, true, Some, max, slice_index, IsTrue};
+ghost use Rattle.std.specs.Prelude.{◌≡◌, ℕ, ◌+◌, ◌^◌, ◌<◌, ◌≤◌, true, Some, length, max, slice_index, IsTrue};
 ghost use Rattle.seq_store.specs.Laws.{restore, Ready};
-ghost use Rattle.seq_store.specs.Layout.{value_of};
+ghost use Rattle.seq_store.specs.Layout.{store_size, value_of};
 ghost use Rattle.seq_store.specs.Store.{store_state, lanes_of};
 
 use crate::SeqStore;
@@ -45,6 +45,7 @@ impl<M: Nvm> SeqStore<M> {
     /// The memory as it is.
     pub fn memory(&self) -> &M
         ensures memory { result.now ≡ (store_state self.now).memory }
+        ensures size { length (M.state result.now).octets ≡ store_size (lanes_of (store_state self.now)) }
     {
         &self.memory
     }
@@ -52,6 +53,7 @@ impl<M: Nvm> SeqStore<M> {
     /// Gives the memory back as it is.
     pub fn into_memory(self) -> M
         ensures memory { result ≡ (store_state self).memory }
+        ensures size { length (M.state result).octets ≡ store_size (lanes_of (store_state self)) }
     {
         self.memory
     }

@@ -1,7 +1,5 @@
 use Rattle.std.proofs.Common.{subst, sym, arith}
 use Rattle.mark_cells.specs.Cell.{ReadsBelow}
-use Rattle.nvm_model.specs.Nvm.{Makes, fault_of}
-use Rattle.mark_cells.specs.Cell.{cell_writes}
 use Rattle.seq_store.specs.Layout.{raise_writes}
 use Rattle.seq_store.proofs.Cells.{reads_below}
 use Rattle.seq_store.proofs.Raises.{raises}

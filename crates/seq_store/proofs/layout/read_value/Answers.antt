@@ -1,4 +1,4 @@
-use Rattle.std.proofs.Common.{Err, ap, sym, refl, ◌∙◌, arith}
+use Rattle.std.proofs.Common.{Err, ap, arith}
 use Rattle.mark_cells.proofs.Copies.{unformatted_reading}
 use Rattle.seq_store.specs.Layout.{value_of}
 use Rattle.seq_store.proofs.layout.read_value.Goals as goal

@@ -1,7 +1,5 @@
-use Rattle.std.proofs.Common.{refl, ap, ◌∙◌, arith}
-use Rattle.seq_store.specs.Draws.{reservation_for}
-use Rattle.seq_store.specs.Laws.{IsRaised}
-use Rattle.seq_store.proofs.Raises.{last_is, reserved_after}
+use Rattle.std.proofs.Common.{refl, ap}
+use Rattle.seq_store.proofs.Raises.{reserved_after}
 use Rattle.seq_store.proofs.store.SeqStore.draw.Goals as goal
 
 pub returns-clause-reserved : goal.returns-clause-reserved
