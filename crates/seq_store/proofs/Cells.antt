@@ -7,7 +7,7 @@ use Rattle.nvm_model.proofs.Lists.{reached_whole}
 use Rattle.mark_cells.specs.Cell.{ReadsBelow, IsOldOrNew}
 use Rattle.mark_cells.proofs.Cells.{reading_outside, raise_moment, raise_whole, cell_writes_few, cell_writes_fit}
 use Rattle.seq_store.specs.Layout.{store_size, value_of, raise_writes}
-use Rattle.seq_store.specs.Laws.{Ready, IsOldOrRaised, MayRaise, HasFewWrites, RaisesWhole}
+use Rattle.seq_store.specs.Laws.{Ready, IsOldOrRaised, MayRaise, HasFewWrites, HasRaiseLaws}
 
 -- cells of two values do not overlap
 apart : (v w : ℕ) → w ≢ v → (14 * v + 14 ≤ 14 * w) ⊎ (14 * w + 14 ≤ 14 * v)
@@ -70,7 +70,7 @@ module _ (lanes v n : ℕ) (image : List ℕ) (may : MayRaise lanes image v n) w
     each_fits = cell_writes_fit image (14 * v) n (length image) inside;
   }
 
-  pub raises_whole : RaisesWhole lanes image v n
+  pub raises_whole : HasRaiseLaws lanes image v n
   raises_whole =
       let all = written (raise_writes lanes image v n) image in
       let moment = raise_torn all (reached_whole (raise_writes lanes image v n) image) in

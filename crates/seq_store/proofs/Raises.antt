@@ -10,7 +10,7 @@ use Rattle.nvm_model.proofs.Runs.{makes_reached}
 use Rattle.seq_store.specs.Agrees.{Agrees}
 use Rattle.seq_store.specs.Draws.{reservation_for}
 use Rattle.seq_store.specs.Layout.{most_lanes, store_size, value_of, raise_writes}
-use Rattle.seq_store.specs.Laws.{Ready, IsRaised, MayRaise, RaisesWhole, Raises}
+use Rattle.seq_store.specs.Laws.{Ready, IsRaised, MayRaise, HasRaiseLaws, Raises}
 use Rattle.seq_store.proofs.Cells.{raises_whole}
 use Rattle.seq_store.proofs.Starts.{restores_ready}
 
@@ -105,7 +105,7 @@ module _ (s : State) (marks : List ℕ) (last : ℕ) (agrees : Agrees s marks la
 -- Any call that makes the writes of a raise does what one does.
 module _ {answer : Option NvmFault} {a b : State} {p q : ℕ → List ℕ → Type 0} (lanes v n : ℕ) (may : MayRaise lanes a.octets v n)
     (made : Makes (raise_writes lanes a.octets v n) answer a b p q) where
-  laws : RaisesWhole lanes a.octets v n
+  laws : HasRaiseLaws lanes a.octets v n
   laws = raises_whole lanes v n a.octets may
 
   pub raises : Raises lanes v n answer a b p q

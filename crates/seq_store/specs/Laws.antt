@@ -52,7 +52,7 @@ pub record HasFewWrites (lanes : ℕ) (image : List ℕ) (v n : ℕ) : Type 0 wh
   pub each_fits : All (FitsIn (length image)) (raise_writes lanes image v n)
 
 -- The laws of a raise: few writes; after all of them the value is raised; at each moment of them it is the old one or the new.
-pub record RaisesWhole (lanes : ℕ) (image : List ℕ) (v n : ℕ) : Type 0 where
+pub record HasRaiseLaws (lanes : ℕ) (image : List ℕ) (v n : ℕ) : Type 0 where
   pub few : HasFewWrites lanes image v n
   pub whole : IsRaised lanes image v n (written (raise_writes lanes image v n) image)
   pub torn : (c : List ℕ) → Reached (raise_writes lanes image v n) image c → IsOldOrRaised lanes image v n c

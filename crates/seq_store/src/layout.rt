@@ -4,7 +4,7 @@ ghost use Rattle.nvm_model.specs.Nvm.{Makes, Reads, fault_of};
 ghost use Rattle.nvm_model.specs.Plan.{unarmed};
 ghost use Rattle.mark_cells.specs.Cell.{reading};
 ghost use Rattle.seq_store.specs.Refusal.{reading_fault};
-ghost use Rattle.seq_store.specs.Laws.{Ready, Restores, MayRaise, RaisesWhole, Raises};
+ghost use Rattle.seq_store.specs.Laws.{Ready, Restores, MayRaise, HasRaiseLaws, Raises};
 ghost use Rattle.seq_store.specs.Layout.{most_lanes, store_size, place_of, value_of, formatted_memory, formatting_writes};
 
 use crate::StoreFault;
@@ -14,7 +14,7 @@ use nvm_model::{Nvm, NvmFault};
 
 // The place of the cell of this value.
 #[tactic(auto, unfolding(crate::specs::Layout::place_of))]
-pub fn place_of(lanes: usize, value: usize) -> usize
+fn place_of(lanes: usize, value: usize) -> usize
     requires lanes_fit { lanes ≤ most_lanes }
     requires in_range { value ≤ lanes }
     ensures place { result ≡ place_of lanes value }
@@ -25,7 +25,7 @@ pub fn place_of(lanes: usize, value: usize) -> usize
 }
 
 // Reads this value.
-pub fn read_value<M: Nvm>(
+pub(crate) fn read_value<M: Nvm>(
     memory: &mut M,
     lanes: usize,
     value: usize,
@@ -50,7 +50,7 @@ pub fn read_value<M: Nvm>(
 }
 
 // Raises this value.
-pub fn raise_value<M: Nvm>(
+pub(crate) fn raise_value<M: Nvm>(
     memory: &mut M,
     lanes: usize,
     value: usize,
@@ -71,7 +71,7 @@ pub fn stored_value(image: &[u8], lanes: usize, value: usize) -> Option<Number48
     requires in_range { value ≤ lanes }
 
     ensures value { result ≡ value_of lanes image.now value }
-    ensures raises { (n : ℕ) → MayRaise lanes image.now value n → RaisesWhole lanes image.now value n }
+    ensures raises { (n : ℕ) → MayRaise lanes image.now value n → HasRaiseLaws lanes image.now value n }
 {
     let at = place_of(lanes, value);
     let mut cell = [0; CELL_SIZE];
@@ -94,8 +94,8 @@ pub fn format_store<M: Nvm>(
     ensures unarmed { (M.state memory.old).plan ≡ Some unarmed → (M.state memory.old).powered ≡ true
         → IsOk result × ((M.state memory.new).plan ≡ Some unarmed) }
 
-    // A formatted memory restores its numbers.
-    ensures law { (last : ℕ) (numbers : List ℕ) → last < 2 ^ 48 → All (λ n. n < 2 ^ 48) numbers
+    // Every formatted memory restores its numbers.
+    ensures each_restores { (last : ℕ) (numbers : List ℕ) → last < 2 ^ 48 → All (λ n. n < 2 ^ 48) numbers
         → Restores (formatted_memory last numbers) last numbers × Ready (length numbers) (formatted_memory last numbers) }
 {
     format_cells(memory, reserved, marks)

@@ -32,39 +32,46 @@ impl<M: Nvm> SeqStore<M> {
         ensures sound { IsTrue (store_state self.new).sound ↔ IsNone (draw_fault result) }
         ensures exhausted { (result ≡ Err DrawFault.Exhausted) ↔ ((store_state self.old).next ≡ 2 ^ 48) }
         ensures unchanged { result ≡ Err DrawFault.Exhausted → store_state self.new ≡ store_state self.old }
-        ensures cause { HasNvmCause (draw_fault result) (M.state (store_state self.old).memory) (M.state (store_state self.new).memory) }
-        ensures few { (M.state (store_state self.new).memory).clock ≤ (M.state (store_state self.old).memory).clock + 3 }
+        ensures cause { let old = store_state self.old in let new = store_state self.new in
+            HasNvmCause (draw_fault result) (M.state old.memory) (M.state new.memory) }
+        ensures few { let old = store_state self.old in let new = store_state self.new in
+            (M.state new.memory).clock ≤ (M.state old.memory).clock + 3 }
 
         // Where the number is reserved nothing but the next number changes.
-        ensures is_reserved { (last : ℕ) → restore_reserved (lanes_of (store_state self.old)) (M.state (store_state self.old).memory).octets ≡ Some last
-            → (store_state self.old).next ≤ last → IsOk result × ((store_state self.new).memory ≡ (store_state self.old).memory) }
+        ensures is_reserved { let old = store_state self.old in let new = store_state self.new in
+            (last : ℕ) → restore_reserved (lanes_of old) (M.state old.memory).octets ≡ Some last → old.next ≤ last
+            → IsOk result × (new.memory ≡ old.memory) }
 
         // Where it is not the reservation is raised.
-        ensures reserves { (last : ℕ) → restore_reserved (lanes_of (store_state self.old)) (M.state (store_state self.old).memory).octets ≡ Some last
-            → last < (store_state self.old).next → (store_state self.old).next < 2 ^ 48
-            → Raises (lanes_of (store_state self.old)) 0 (reservation_for last (store_state self.old).next) (draw_fault result)
-            (M.state (store_state self.old).memory) (M.state (store_state self.new).memory)
-            (M.images (store_state self.old).memory) (M.images (store_state self.new).memory) }
+        ensures reserves { let old = store_state self.old in let new = store_state self.new in
+            (last : ℕ) → restore_reserved (lanes_of old) (M.state old.memory).octets ≡ Some last → last < old.next → old.next < 2 ^ 48
+            → Raises (lanes_of old) 0 (reservation_for last old.next) (draw_fault result)
+            (M.state old.memory) (M.state new.memory) (M.images old.memory) (M.images new.memory) }
 
-        // In both cases each image has the old reservation or the new one and every mark as before, and after Ok the octets have the new one.
-        ensures any_moment { (last : ℕ) → restore_reserved (lanes_of (store_state self.old)) (M.state (store_state self.old).memory).octets ≡ Some last
-            → LeavesOnly (M.state (store_state self.old).memory).clock (M.images (store_state self.old).memory) (M.images (store_state self.new).memory)
-            (IsOldOrRaised (lanes_of (store_state self.old)) (M.state (store_state self.old).memory).octets 0 (reservation_for last (store_state self.old).next)) }
-        ensures reserved { (last : ℕ) → restore_reserved (lanes_of (store_state self.old)) (M.state (store_state self.old).memory).octets ≡ Some last
-            → OnOk result (IsRaised (lanes_of (store_state self.old)) (M.state (store_state self.old).memory).octets 0 (reservation_for last (store_state self.old).next)
-            (M.state (store_state self.new).memory).octets) }
-        // So a start at any time later goes on above every number that was drawn.
-        ensures covered { (last : ℕ) → restore_reserved (lanes_of (store_state self.new)) (M.state (store_state self.new).memory).octets ≡ Some last
-            → IfOk result (λ number. number ≤ last) }
+        // In both cases each image has the old reservation or the new one and every mark as before,
+        ensures any_moment { let old = store_state self.old in let new = store_state self.new in
+            (last : ℕ) → restore_reserved (lanes_of old) (M.state old.memory).octets ≡ Some last
+            → LeavesOnly (M.state old.memory).clock (M.images old.memory) (M.images new.memory)
+            (IsOldOrRaised (lanes_of old) (M.state old.memory).octets 0 (reservation_for last old.next)) }
 
-        // So draws after a start take few writes, as long as the next number is not raised in between.
-        ensures is_draw { (last new_last : ℕ) → restore_reserved (lanes_of (store_state self.old)) (M.state (store_state self.old).memory).octets ≡ Some last
-            → restore_reserved (lanes_of (store_state self.new)) (M.state (store_state self.new).memory).octets ≡ Some new_last
-            → IsDraw last (store_state self.old).next (record {
-              writes = (M.state (store_state self.new).memory).clock - (M.state (store_state self.old).memory).clock;
-              sound = (store_state self.new).sound;
+        // and after Ok the octets have the new one,
+        ensures reserved { let old = store_state self.old in let new = store_state self.new in
+            (last : ℕ) → restore_reserved (lanes_of old) (M.state old.memory).octets ≡ Some last
+            → OnOk result (IsRaised (lanes_of old) (M.state old.memory).octets 0 (reservation_for last old.next) (M.state new.memory).octets) }
+
+        // so that a start over them goes on above the number.
+        ensures covered { let new = store_state self.new in
+            (last : ℕ) → restore_reserved (lanes_of new) (M.state new.memory).octets ≡ Some last → IfOk result (λ number. number ≤ last) }
+
+        // Draws after a start take few writes, as long as the next number is not raised in between.
+        ensures is_draw { let old = store_state self.old in let new = store_state self.new in
+            (old_last new_last : ℕ) → restore_reserved (lanes_of old) (M.state old.memory).octets ≡ Some old_last
+            → restore_reserved (lanes_of new) (M.state new.memory).octets ≡ Some new_last
+            → IsDraw old_last old.next (record {
+              writes = (M.state new.memory).clock - (M.state old.memory).clock;
+              sound = new.sound;
               last = new_last;
-              next = (store_state self.new).next;
+              next = new.next;
             }) }
         ensures bound { (last : ℕ) (draws : List Drawn) → last < 2 ^ 48 → AreDraws true last (last + 1) draws
             → sum_by (λ d. d.writes) draws ≤ 3 * (1 + length draws / 64) }

@@ -18,9 +18,9 @@ impl<M: Nvm> SeqStore<M> {
         requires in_range { lane < lanes_of (store_state self.old) }
         requires above { slice_index (store_state self.old).marks lane < number }
 
-        ensures raises { Raises (lanes_of (store_state self.old)) (1 + lane) number (fault_of result)
-            (M.state (store_state self.old).memory) (M.state (store_state self.new).memory)
-            (M.images (store_state self.old).memory) (M.images (store_state self.new).memory) }
+        ensures raises { let old = store_state self.old in let new = store_state self.new in
+            Raises (lanes_of old) (1 + lane) number (fault_of result)
+            (M.state old.memory) (M.state new.memory) (M.images old.memory) (M.images new.memory) }
         ensures marks { OnOk result ((store_state self.new).marks ≡ slice_set (store_state self.old).marks lane number) }
         ensures refused { OnErr result ((store_state self.new).marks ≡ (store_state self.old).marks) }
         ensures next { (store_state self.new).next ≡ (store_state self.old).next }

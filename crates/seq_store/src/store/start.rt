@@ -1,5 +1,6 @@
-ghost use Rattle.std.specs.Prelude.{◌≡◌, ◌≢◌, ℕ, ◌+◌, ◌<◌, ◌≤◌, ◌↔◌, true, Some, None, Err, length, slice_index, option_map, IfOk, IfErr};
+ghost use Rattle.std.specs.Prelude.{◌≡◌, ◌≢◌, ℕ, ◌+◌, ◌<◌, ◌≤◌, ◌↔◌, true, Some, None, Err, length, slice_index, option_map, IsSome, IfOk, IfErr};
 ghost use Rattle.nvm_model.specs.Nvm.{Reads};
+ghost use Rattle.nvm_model.specs.declared.fault.NvmFault.{NvmFault};
 ghost use Rattle.seq_store.specs.Laws.{restore, restore_reserved, Restores, IsUnformattedAt};
 ghost use Rattle.seq_store.specs.Layout.{most_lanes, store_size, value_of};
 ghost use Rattle.seq_store.specs.Refusal.{read_fault, reading_fault, refusal_of, has_read};
@@ -34,6 +35,8 @@ impl<M: Nvm> SeqStore<M> {
             ↔ (IsUnformattedAt lanes (M.state memory).octets place × (has_read (refusal_of result) ≡ true)) }
         ensures refused { IfErr result (λ refused. refused.fault ≢ StoreFault.NoMemory → Reads (read_fault refused.fault)
             (M.state memory) (M.state refused.memory) (M.images memory) (M.images refused.memory)) }
+        ensures told { IsSome (M.state memory).plan → (M.state memory).powered ≡ true
+            → (fault : NvmFault) → refusal_of result ≢ Some (StoreFault.Memory fault) }
         ensures unread { IfErr result (λ refused. refused.fault ≡ StoreFault.NoMemory → refused.memory ≡ memory) }
     {
         let zero = Number48::from_bytes([0; 6]);

@@ -29,15 +29,16 @@ impl<M: Nvm> SeqStore<M> {
         ensures sound { result ≡ (store_state self.now).sound }
         ensures powered { IsTrue result → (M.state (store_state self.now).memory).powered ≡ true }
         ensures ready { IsTrue result → Ready (lanes_of (store_state self.now)) (M.state (store_state self.now).memory).octets }
-        ensures restores { IsTrue result → (lane : ℕ) → lane < lanes_of (store_state self.now)
-            → restore (lanes_of (store_state self.now)) (M.state (store_state self.now).memory).octets lane ≡ Some (slice_index (store_state self.now).marks lane) }
+        ensures restores { let store = store_state self.now in
+            IsTrue result → (lane : ℕ) → lane < lanes_of store
+            → restore (lanes_of store) (M.state store.memory).octets lane ≡ Some (slice_index store.marks lane) }
     {
         self.sound
     }
 
     /// Makes the next number greater than this one. It changes working memory only.
     pub fn raise_next(&mut self, above: Number48)
-        ensures next { store_state self.new ≡ record (store_state self.old) { next = max (store_state self.old).next (above + 1) } }
+        ensures next { let old = store_state self.old in let new = store_state self.new in store_state self.new ≡ record old { next = max old.next (above + 1) } }
     {
         self.next = self.next.max(above.get() + 1);
     }

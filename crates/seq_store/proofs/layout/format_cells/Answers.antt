@@ -8,7 +8,7 @@ use Rattle.seq_store.proofs.layout.format_cells.Goals as goal
 pub returns-in_err-format_cell-clause-makes : goal.returns-in_err-format_cell-clause-makes
 returns-in_err-format_cell-clause-makes g c =
     let p = err_from_is_err_and c.from_residual.result c.from_residual.ensures.1 in
-    rw (p.1, p.2) (makes_no_more c.args.reserved c.args.marks.now 0 (makes_first c.args.reserved c.in_err-format_cell.ensures.makes))
+    rw (p.1, p.2) (makes_no_more c.args.reserved c.args.marks.now 0 (makes_first {answer = Some c.in_err-format_cell.field-0.0} c.args.reserved c.in_err-format_cell.ensures.makes))
 
 pub loop-mark-init : goal.loop-mark-init
 loop-mark-init g c = record {

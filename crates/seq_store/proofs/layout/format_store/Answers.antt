@@ -13,5 +13,5 @@ returns-clause-restores g c =
 pub returns-clause-unarmed : goal.returns-clause-unarmed
 returns-clause-unarmed g c = makes_unarmed c.format_cells.result c.format_cells.ensures.makes
 
-pub returns-clause-law : goal.returns-clause-law
-returns-clause-law g c = formatted_law
+pub returns-clause-each_restores : goal.returns-clause-each_restores
+returns-clause-each_restores g c = formatted_law
