@@ -6,7 +6,7 @@ use Rattle.nvm_model.specs.declared.fault.NvmFault.{NvmFault}
 use Rattle.nvm_model.specs.Write.{FitsIn, written, Reached}
 use Rattle.seq_store.specs.Layout.{most_lanes, store_size, place_of, value_of, raise_writes}
 
--- the last reserved number that an image restores, and the mark of a lane
+-- the last reserved number that an image restores, and the mark of a lane: values 0 and 1 + lane
 abbrev pub restore_reserved : ℕ → List ℕ → Option ℕ
 restore_reserved lanes image = value_of lanes image 0
 
@@ -46,7 +46,7 @@ pub record MayRaise (lanes : ℕ) (image : List ℕ) (v n : ℕ) : Type 0 where
   pub above : old < n
   pub fits : n < 2 ^ 48
 
--- few writes
+-- at most three writes, each inside the image and not empty
 pub record HasFewWrites (lanes : ℕ) (image : List ℕ) (v n : ℕ) : Type 0 where
   pub at_most_three : length (raise_writes lanes image v n) ≤ 3
   pub each_fits : All (FitsIn (length image)) (raise_writes lanes image v n)
@@ -57,7 +57,7 @@ pub record HasRaiseLaws (lanes : ℕ) (image : List ℕ) (v n : ℕ) : Type 0 wh
   pub whole : IsRaised lanes image v n (written (raise_writes lanes image v n) image)
   pub torn : (c : List ℕ) → Reached (raise_writes lanes image v n) image c → IsOldOrRaised lanes image v n c
 
--- the first value without an open copy is kept at this place
+-- the first value that the image does not have is kept at this place
 pub record IsUnformattedAt (lanes : ℕ) (image : List ℕ) (place : ℕ) : Type 0 where
   pub value : ℕ
   pub in_range : value ≤ lanes

@@ -38,7 +38,7 @@ impl<M: Nvm> SeqStore<M> {
 
     /// Makes the next number greater than this one. It changes working memory only.
     pub fn raise_next(&mut self, above: Number48)
-        ensures next { let old = store_state self.old in let new = store_state self.new in store_state self.new ≡ record old { next = max old.next (above + 1) } }
+        ensures next { let old = store_state self.old in store_state self.new ≡ record old { next = max old.next (above + 1) } }
     {
         self.next = self.next.max(above.get() + 1);
     }
