@@ -12,6 +12,12 @@ const LANES: usize = 2;
 
 const SIZE: usize = 42;
 
+// Formatted with zeros; then the mark of the second lane is raised to 7, and the reservation to 163.
+const RAISED: [u8; SIZE] = [
+    0xa5, 0, 0, 0, 0, 0, 0, 0xa5, 0, 0, 0, 0, 0, 163, 0xa5, 0, 0, 0, 0, 0, 0, 0, 0, 0, 0, 0, 0, 0,
+    0xa5, 0, 0, 0, 0, 0, 0, 0xa5, 0, 0, 0, 0, 0, 7,
+];
+
 fn number(value: u64) -> Result<Number48, Fail> {
     Ok(Number48::new(value).ok_or("too great")?)
 }
@@ -45,7 +51,7 @@ fn a_memory_of_zeros_is_unformatted(rt: HostRuntime) -> Result<(), Fail> {
 
 // Which of 130 draws fails, if any. They give the numbers from 1 on.
 fn failing_draw(store: &mut SeqStore<SimNvm>) -> Result<Option<u64>, Fail> {
-    for count in 1..131 {
+    for count in 1..=130 {
         if !store.is_sound() {
             return Err(Fail::from("not sound"));
         }
@@ -133,13 +139,9 @@ fn a_store_keeps_its_numbers_in_cells(rt: HostRuntime) -> Result<(), Fail> {
     assert_eq!(rt; raise_and_draw(&mut store)?, 100);
     assert_eq!(rt; store.next(), 101);
     assert_eq!(rt; store.mark(1), number(7)?);
-    let want = [
-        0xa5, 0, 0, 0, 0, 0, 0, 0xa5, 0, 0, 0, 0, 0, 163, 0xa5, 0, 0, 0, 0, 0, 0, 0, 0, 0, 0, 0, 0,
-        0, 0xa5, 0, 0, 0, 0, 0, 0, 0xa5, 0, 0, 0, 0, 0, 7,
-    ];
-    assert_eq!(rt; store.memory().image(), want.as_slice());
+    assert_eq!(rt; store.memory().image(), RAISED.as_slice());
     for (value, number) in [(0, 163), (1, 0), (2, 7)] {
-        assert_eq!(rt; stored_value(&want, LANES, value), Number48::new(number));
+        assert_eq!(rt; stored_value(&RAISED, LANES, value), Number48::new(number));
     }
     assert_eq!(rt; stored_value(&[0; SIZE], LANES, 2), None);
     Ok(())
@@ -150,7 +152,11 @@ fn a_store_keeps_its_numbers_in_cells(rt: HostRuntime) -> Result<(), Fail> {
 fn a_call_that_fails_is_told(rt: HostRuntime) -> Result<(), Fail> {
     let mut store = new_store(rt.alloc(), FailingNvm::new(rt.alloc(), SIZE, 0, 0)?)?;
     assert_eq!(rt; raise_and_draw(&mut store)?, 100);
+    assert_eq!(rt; store.next(), 101);
     assert_eq!(rt; store.mark(1), number(7)?);
+    assert_eq!(rt; store.memory().size(), SIZE);
+    let memory = store.into_memory();
+    assert_eq!(rt; memory.image(), RAISED.as_slice());
     let mut store = new_store(rt.alloc(), FailingNvm::new(rt.alloc(), SIZE, 7, 0xff)?)?;
     if !store.is_sound() {
         return Err(Fail::from("not sound"));

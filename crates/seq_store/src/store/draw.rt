@@ -1,5 +1,6 @@
 ghost use Rattle.std.specs.Prelude.{◌≡◌, ℕ, ◌+◌, ◌-◌, ◌*◌, ◌/◌, ◌^◌, ◌<◌, ◌≤◌, ◌↔◌, true, List, length, Some, None, Err, IsTrue, IsOk, IsNone, IfOk, OnOk, OnErr};
 ghost use Rattle.std.specs.List.{sum_by};
+ghost use Rattle.knx_base.specs.Faults.{Rose};
 ghost use Rattle.nvm_model.specs.Nvm.{HasNvmCause, LeavesOnly, fault_of};
 ghost use Rattle.seq_store.specs.Draws.{reservation_for, Drawn, IsDraw, AreDraws};
 ghost use Rattle.seq_store.specs.Laws.{restore_reserved, IsRaised, IsOldOrRaised, Raises};
@@ -34,6 +35,8 @@ impl<M: Nvm> SeqStore<M> {
         ensures unchanged { result ≡ Err DrawFault.Exhausted → store_state self.new ≡ store_state self.old }
         ensures cause { let old = store_state self.old in let new = store_state self.new in
             HasNvmCause (draw_fault result) (M.state old.memory) (M.state new.memory) }
+        ensures cut { draw_fault result ≡ Some NvmFault.Cut
+            → Rose (M.state (store_state self.old).memory).cuts (M.state (store_state self.new).memory).cuts }
         ensures few { let old = store_state self.old in let new = store_state self.new in
             (M.state new.memory).clock ≤ (M.state old.memory).clock + 3 }
 
