@@ -235,7 +235,7 @@ makes_no_raise {fault = fault} {a = a} {b = b} {p = p} {q = q} at n reads =
       by_gate gate true = makes_not_read _ _ reads
       by_gate gate false = makes_not_read _ _ reads
 
-length-formatted : (n : ℕ) → length (formatted n) ≡ 14
+pub length-formatted : (n : ℕ) → length (formatted n) ≡ 14
 unfolding formatted
 length-formatted n = simp length-append (omega (arith, length-octets_of n))
 

@@ -1,0 +1,5 @@
+pub mod Bound
+pub mod Cells
+pub mod Formatting
+pub mod Raises
+pub mod Starts

@@ -1,0 +1,21 @@
+//! Marks and reserved numbers that outlive a loss of power.
+//!
+//! A device keeps one mark for each of its lanes, the greatest number that it took there, and the last number that it has
+//! reserved for its own telegrams. A mark is raised in the memory before its number counts. Numbers are drawn in order, each at
+//! or below the last reserved one, and after a start the next is one above it. So no mark ever falls, and no number is drawn
+//! twice, wherever power was lost.
+//!
+//! `layout` alone knows where the memory keeps these numbers. All else goes by the names of specs/Layout.antt and by the laws of
+//! specs/Laws.antt: a raise takes at most three writes, leaves the old value or the new one at each moment, and the new one at
+//! its end, and it leaves all other values alone; and a memory that was formatted has its numbers.
+#![tactic(auto)]
+
+mod fault;
+mod layout;
+mod store;
+#[cfg(test)]
+mod tests;
+
+pub use fault::{DrawFault, StoreFault, StoreRefused};
+pub use layout::{format_store, stored_value};
+pub use store::SeqStore;

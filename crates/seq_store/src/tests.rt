@@ -1,0 +1,191 @@
+ghost use Rattle.std.specs.Prelude.{◌≡◌, ◌≤◌, true, length, IfOk};
+ghost use Rattle.seq_store.specs.Store.{store_state, lanes_of};
+
+use crate::{DrawFault, SeqStore, StoreFault, format_store, stored_value};
+use knx_base::Number48;
+use nvm_model::trial::FailingNvm;
+use nvm_model::{Nvm, NvmFault, SimNvm};
+use std::alloc::Global;
+use std::test::Fail;
+
+const LANES: usize = 2;
+
+const SIZE: usize = 42;
+
+// Formatted with zeros; then the mark of the second lane is raised to 7, and the reservation to 163.
+const RAISED: [u8; SIZE] = [
+    0xa5, 0, 0, 0, 0, 0, 0, 0xa5, 0, 0, 0, 0, 0, 163, 0xa5, 0, 0, 0, 0, 0, 0, 0, 0, 0, 0, 0, 0, 0,
+    0xa5, 0, 0, 0, 0, 0, 0, 0xa5, 0, 0, 0, 0, 0, 7,
+];
+
+fn number(value: u64) -> Result<Number48, Fail> {
+    Ok(Number48::new(value).ok_or("too great")?)
+}
+
+// Formats a memory of two lanes with zeros, and starts a store over it.
+fn new_store<M: Nvm + Drop>(alloc: Global, mut memory: M) -> Result<SeqStore<M>, Fail>
+    requires size { length (M.state memory).octets ≡ 42 }
+    ensures lanes { IfOk result (λ store. lanes_of (store_state store) ≡ 2) }
+{
+    let zero = number(0)?;
+    if format_store(&mut memory, zero, &[zero; LANES]).is_err() {
+        return Err(Fail::from("not formatted"));
+    }
+    match SeqStore::start(alloc, LANES, memory) {
+        Ok(store) => Ok(store),
+        Err(_) => Err(Fail::from("not started")),
+    }
+}
+
+#[test]
+fn a_memory_of_zeros_is_unformatted(rt: HostRuntime) -> Result<(), Fail> {
+    let memory = SimNvm::new(rt.alloc(), SIZE)?;
+    match SeqStore::start(rt.alloc(), LANES, memory) {
+        Ok(_) => Err(Fail::from("started")),
+        Err(refused) => {
+            assert_eq!(rt; refused.fault, StoreFault::Unformatted(0));
+            Ok(())
+        }
+    }
+}
+
+// Which of 130 draws fails, if any. They give the numbers from 1 on.
+fn failing_draw(store: &mut SeqStore<SimNvm>) -> Result<Option<u64>, Fail> {
+    for count in 1..=130 {
+        if !store.is_sound() {
+            return Err(Fail::from("not sound"));
+        }
+        match store.draw() {
+            Ok(number) if number.get() == count => {}
+            Ok(_) => return Err(Fail::from("another number")),
+            Err(_) => return Ok(Some(count)),
+        }
+    }
+    Ok(None)
+}
+
+// Each row: the write that fails, and the draw that makes it.
+#[test]
+fn of_130_draws_the_1st_65th_and_129th_write(rt: HostRuntime) -> Result<(), Fail> {
+    let rows = [
+        (1, Some(1)),
+        (2, Some(1)),
+        (3, Some(65)),
+        (5, Some(65)),
+        (6, Some(129)),
+        (8, Some(129)),
+        (9, None),
+    ];
+    for (write, want) in rows {
+        let mut store = new_store(rt.alloc(), SimNvm::new(rt.alloc(), SIZE)?)?;
+        store.arm_fail(write, 0xff);
+        assert_eq!(rt; failing_draw(&mut store)?, want, "write {write}");
+        assert_eq!(rt; store.is_sound(), want.is_none());
+    }
+    Ok(())
+}
+
+// The next number of a store that is started over this memory once power has returned.
+fn next_after_power(alloc: Global, mut memory: SimNvm) -> Result<u64, Fail> {
+    memory.power_on();
+    if memory.size() != SIZE {
+        return Err(Fail::from("another size"));
+    }
+    match SeqStore::start(alloc, LANES, memory) {
+        Ok(store) => Ok(store.next()),
+        Err(_) => Err(Fail::from("not started")),
+    }
+}
+
+// Each row: the write of the 65th draw that is cut, the octet that it leaves, and the next number after power returns.
+#[test]
+fn a_cut_leaves_the_old_reservation_or_the_new(rt: HostRuntime) -> Result<(), Fail> {
+    let rows = [(3, 0xa5, 65), (4, 0xa5, 65), (5, 0x00, 65), (5, 0xa5, 129)];
+    for (write, torn, want) in rows {
+        let mut store = new_store(rt.alloc(), SimNvm::new(rt.alloc(), SIZE)?)?;
+        store.arm_cut(write, torn);
+        assert_eq!(rt; failing_draw(&mut store)?, Some(65));
+        let next = next_after_power(rt.alloc(), store.into_memory())?;
+        assert_eq!(rt; next, want, "write {write}, torn {torn}");
+    }
+    Ok(())
+}
+
+// Raises the mark of the second lane to 7 and the next number to 100, and draws it.
+fn raise_and_draw<M: Nvm>(store: &mut SeqStore<M>) -> Result<u64, Fail>
+    requires lanes { lanes_of (store_state store.old) ≡ 2 }
+    ensures lanes { lanes_of (store_state store.new) ≡ 2 }
+{
+    let seven = number(7)?;
+    if !store.is_sound() || store.mark(1) >= seven {
+        return Err(Fail::from("not to be raised"));
+    }
+    if store.raise(1, seven).is_err() {
+        return Err(Fail::from("not raised"));
+    }
+    store.raise_next(number(99)?);
+    if !store.is_sound() {
+        return Err(Fail::from("not sound"));
+    }
+    match store.draw() {
+        Ok(number) => Ok(number.get()),
+        Err(_) => Err(Fail::from("not drawn")),
+    }
+}
+
+#[test]
+fn a_store_keeps_its_numbers_in_cells(rt: HostRuntime) -> Result<(), Fail> {
+    let mut store = new_store(rt.alloc(), SimNvm::new(rt.alloc(), SIZE)?)?;
+    assert_eq!(rt; raise_and_draw(&mut store)?, 100);
+    assert_eq!(rt; store.next(), 101);
+    assert_eq!(rt; store.mark(1), number(7)?);
+    assert_eq!(rt; store.memory().image(), RAISED.as_slice());
+    for (value, number) in [(0, 163), (1, 0), (2, 7)] {
+        assert_eq!(rt; stored_value(&RAISED, LANES, value), Number48::new(number));
+    }
+    assert_eq!(rt; stored_value(&[0; SIZE], LANES, 2), None);
+    Ok(())
+}
+
+// A memory that tells no plan. Its calls are the three that format it, the three of a start, and then those of the draw.
+#[test]
+fn a_call_that_fails_is_told(rt: HostRuntime) -> Result<(), Fail> {
+    let mut store = new_store(rt.alloc(), FailingNvm::new(rt.alloc(), SIZE, 0, 0)?)?;
+    assert_eq!(rt; raise_and_draw(&mut store)?, 100);
+    assert_eq!(rt; store.next(), 101);
+    assert_eq!(rt; store.mark(1), number(7)?);
+    assert_eq!(rt; store.memory().size(), SIZE);
+    let memory = store.into_memory();
+    assert_eq!(rt; memory.image(), RAISED.as_slice());
+    let mut store = new_store(rt.alloc(), FailingNvm::new(rt.alloc(), SIZE, 7, 0xff)?)?;
+    if !store.is_sound() {
+        return Err(Fail::from("not sound"));
+    }
+    assert_eq!(rt; store.draw(), Err(DrawFault::Memory(NvmFault::Failed)));
+    assert!(rt; !store.is_sound());
+    match SeqStore::start(
+        rt.alloc(),
+        LANES,
+        FailingNvm::new(rt.alloc(), SIZE, 1, 0xff)?,
+    ) {
+        Ok(_) => Err(Fail::from("started")),
+        Err(refused) => {
+            assert_eq!(rt; refused.fault, StoreFault::Memory(NvmFault::Failed));
+            Ok(())
+        }
+    }
+}
+
+#[test]
+fn the_last_number_is_2_to_the_48_less_1(rt: HostRuntime) -> Result<(), Fail> {
+    let mut store = new_store(rt.alloc(), SimNvm::new(rt.alloc(), SIZE)?)?;
+    store.raise_next(number(0xffff_ffff_fffe)?);
+    for want in [Ok(0xffff_ffff_ffff), Err(DrawFault::Exhausted)] {
+        if !store.is_sound() {
+            return Err(Fail::from("not sound"));
+        }
+        assert_eq!(rt; store.draw().map(|number| number.get()), want);
+    }
+    assert!(rt; store.is_sound());
+    Ok(())
+}
