@@ -49,14 +49,22 @@ impl LineBuf {
         self.len = put_octet(&mut self.store, self.len, octet);
     }
 
+    /// Adds octets as they are.
+    pub fn octets(&mut self, octets: &[u8])
+        requires room { length self.old + length octets.now ≤ 1024 }
+        ensures added { self.new ≡ self.old ++ octets.now }
+    {
+        let end = self.len + octets.len();
+        self.store[self.len..end].copy_from_slice(octets);
+        self.len = end;
+    }
+
     /// Adds a text.
     pub fn text(&mut self, text: &str)
         requires room { length self.old + length text.now ≤ 1024 }
         ensures added { self.new ≡ self.old ++ text.now }
     {
-        let end = self.len + text.len();
-        self.store[self.len..end].copy_from_slice(text.as_bytes());
-        self.len = end;
+        self.octets(text.as_bytes());
     }
 
     /// Adds the decimal of a number, at most 20 digits.
