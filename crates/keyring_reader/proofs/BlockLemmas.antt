@@ -1,5 +1,5 @@
 -- The search for a block finds the one that passes.
-use Rattle.std.proofs.Common.{◌≡◌, ℕ, zero, suc, ◌+◌, ◌*◌, ◌/◌, ◌%◌, ◌^◌, ◌<◌, ◌≤◌, ◌⊎◌, inl, inr, Bool, true, false, List, [], ◌∷◌, length, get_or, Option, Some, None, refl, sym, ap, subst, ◌∙◌, arith, add-one}
+use Rattle.std.proofs.Common.{◌≡◌, ℕ, zero, suc, ◌+◌, ◌*◌, ◌/◌, ◌%◌, ◌^◌, ◌<◌, ◌⊎◌, inl, inr, Bool, true, false, List, [], ◌∷◌, length, Option, Some, None, refl, sym, ap, subst, ◌∙◌, arith}
 use Rattle.std.proofs.Math.Nat.{pow-succ'}
 use Rattle.std.specs.Option.{option_or}
 use Rattle.std.proofs.lemmas.Bool.{cases_lt}
@@ -114,3 +114,22 @@ found_block test b is passes only =
 pub no_block : (test : List ℕ → Bool) → ((b : List ℕ) → IsBlock b → test b ≡ false) → first_block test ≡ None
 unfolding first_block
 no_block test fails = none_below test (256 ^ 16) (λ k below. fails (block_of k) (is_block k))
+
+last_passes : (before : Option (List ℕ)) (test : Bool) (block b : List ℕ) → option_or before (where_true test block) ≡ Some b
+    → (before ≡ Some b) ⊎ ((test ≡ true) × (block ≡ b))
+last_passes (Some x) test block b is = inl is
+last_passes None true block b is = inr (refl, cc)
+last_passes None false block b is = cc
+
+below_passes : (test : List ℕ → Bool) (n : ℕ) (b : List ℕ) → first_below test n ≡ Some b → test b ≡ true
+unfolding first_below
+below_passes test zero b is = cc
+below_passes test (suc n) b is = elim (last_passes (first_below test n) (test (block_of n)) (block_of n) b is) [
+  | inl before ↦ below_passes test n b before
+  | inr here ↦ ap test (sym here.1) ∙ here.0
+]
+
+-- the block that is found passes
+pub found_passes : (test : List ℕ → Bool) (b : List ℕ) → first_block test ≡ Some b → test b ≡ true
+unfolding first_block
+found_passes test b is = below_passes test (256 ^ 16) b is

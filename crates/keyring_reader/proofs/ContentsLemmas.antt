@@ -1,5 +1,5 @@
 -- An element that is refused.
-use Rattle.std.proofs.Common.{◌≡◌, ℕ, ◌+◌, ◌<◌, List, ◌∷◌, length, get_or, drop, Result, Err, sym, ap, subst, ◌∙◌}
+use Rattle.std.proofs.Common.{◌≡◌, ℕ, ◌+◌, ◌<◌, List, ◌∷◌, length, get_or, drop, Result, sym, ap, subst, ◌∙◌}
 use Rattle.std.proofs.lemmas.List.{drop_more}
 use Rattle.tag_text.specs.declared.tag.Tag.{Tag}
 use Rattle.tag_text.specs.declared.tag.Tag.TheVariants.{Start}

@@ -1,5 +1,5 @@
 -- A search through the attributes of an element for one that is too long.
-use Rattle.std.proofs.Common.{◌≡◌, ℕ, ◌+◌, ◌&&◌, ◌||◌, cond, Bool, true, false, List, [], ◌∷◌, drop, slice_get, Option, Some, None, refl, sym, ap, ◌∙◌}
+use Rattle.std.proofs.Common.{◌≡◌, ℕ, ◌+◌, ◌&&◌, Bool, true, false, List, ◌∷◌, drop, slice_get, Some, refl, ap, ◌∙◌}
 use Rattle.std.specs.List.{list_any, filter}
 use Rattle.keyring_reader.specs.Signed.{is_signed, is_long_attribute}
 use Rattle.keyring_reader.proofs.ListLemmas.{drop_at}

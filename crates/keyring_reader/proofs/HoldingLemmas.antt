@@ -1,10 +1,9 @@
 -- One more key.
-use Rattle.std.proofs.Common.{◌≡◌, ◌==◌, ℕ, Bool, true, false, cond, not, ◌||◌, List, [], ◌∷◌, ◌++◌, Ok, Err, Result, refl, sym, ap, ◌∙◌, append-nil, inl, inr, filter_map, fold, Vec, vec_items}
+use Rattle.std.proofs.Common.{◌≡◌, ◌==◌, ℕ, Bool, true, false, cond, not, ◌||◌, List, [], ◌∷◌, ◌++◌, Ok, Err, refl, sym, ap, ◌∙◌, append-nil, filter_map, fold, Vec}
 use Rattle.std.specs.declared.alloc.Global.{Global}
-use Rattle.std.specs.List.{list_any}
 use Rattle.std.specs.Ordering.{is_eq}
 use Rattle.std.specs.BTreeSet.{BTreeSet, insert_key, contains}
-use Rattle.std.proofs.lemmas.Bool.{cases_Bool, eqb-true, eq-eqb}
+use Rattle.std.proofs.lemmas.Bool.{eqb-true, eq-eqb}
 use Rattle.std.proofs.lemmas.Grind.{fold-append}
 use Rattle.std.proofs.lemmas.List.Elements.{filter_map-append}
 use Rattle.std.proofs.lemmas.List.Folds.{list_any-append}
@@ -17,16 +16,11 @@ use Rattle.key_tables.specs.declared.types.Row.{Row}
 use Rattle.key_tables.specs.declared.types.Row.TheVariants as row
 use Rattle.key_tables.specs.Rows.{is_key_row, has_key}
 use Rattle.keyring_reader.specs.declared.gathered.Gathered.{Gathered}
-use Rattle.keyring_reader.specs.declared.fault.KeyringFault.{KeyringFault}
 use Rattle.keyring_reader.specs.declared.fault.KeyringFault.TheVariants as fault
 use Rattle.keyring_reader.specs.Contents.{Contents, with_key}
-use Rattle.keyring_reader.specs.Roles.{ascending, keyed_group, keyed_device, groups_of, devices_of}
+use Rattle.keyring_reader.specs.Roles.{ascending, keyed_group, keyed_device}
 use Rattle.keyring_reader.specs.Holding.{by_group, by_device, Holds}
-use Rattle.keyring_reader.proofs.ListedLemmas.{is_eq-nat_cmp}
-
-or_false : (b : Bool) → (b || false) ≡ b
-or_false true = refl
-or_false false = refl
+use Rattle.keyring_reader.proofs.ListedLemmas.{or_false, is_eq-nat_cmp}
 
 either_or : (here known : Bool) → cond here true known ≡ (known || (here || false))
 either_or true true = refl

@@ -11,3 +11,4 @@ mod HoldingLemmas
 mod ContentsLemmas
 mod KeyringLemmas
 mod NoTagLemmas
+mod OrderLemmas

@@ -1,6 +1,6 @@
 -- One more listing of a group.
-use Rattle.std.proofs.Common.{◌≡◌, ◌==◌, ℕ, Bool, true, false, cond, not, ◌||◌, List, [], ◌∷◌, ◌++◌, fold, flat_map, Option, Some, None, Ordering, refl, sym, ap, ◌∙◌, append-nil, inl, inr, nat_lt, arith, ◌<◌}
-use Rattle.std.specs.List.{list_any, filter}
+use Rattle.std.proofs.Common.{◌≡◌, ◌==◌, ℕ, Bool, true, false, cond, ◌||◌, List, [], ◌∷◌, ◌++◌, fold, flat_map, Option, Some, None, refl, sym, ap, ◌∙◌, append-nil, inl, inr, nat_lt, arith}
+use Rattle.std.specs.List.{filter}
 use Rattle.std.specs.Option.{option_map, unwrap_or}
 use Rattle.std.specs.Ordering.{nat_cmp, is_eq}
 use Rattle.std.specs.BTreeMap.{BTreeMap}
@@ -17,7 +17,7 @@ use Rattle.keyring_reader.specs.declared.said.Listing.{Listing}
 use Rattle.keyring_reader.specs.Roles.{ascending, lists, is_listed, senders_to, listed_senders}
 use Rattle.keyring_reader.specs.Holding.{by_group, by_device, AreListed}
 
-or_false : (b : Bool) → (b || false) ≡ b
+pub or_false : (b : Bool) → (b || false) ≡ b
 or_false true = refl
 or_false false = refl
 

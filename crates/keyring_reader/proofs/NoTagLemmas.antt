@@ -1,6 +1,6 @@
 -- Where the tags of a document are read, no fault of the document comes any more.
-use Rattle.std.proofs.Common.{◌≡◌, ◌≢◌, ◌==◌, ◌++◌, ℕ, Bool, true, false, cond, codes, List, [], ◌∷◌, Option, Some, None, Result, Ok, Err, IfErr, subst}
-use Rattle.std.specs.Option.{ok_or, option_map, unwrap_or, option_to_list}
+use Rattle.std.proofs.Common.{◌≡◌, ◌≢◌, ℕ, Bool, true, false, cond, codes, List, [], ◌∷◌, Option, Some, None, Result, Ok, Err, IfErr, subst}
+use Rattle.std.specs.Option.{ok_or, option_map, unwrap_or}
 use Rattle.std.specs.Str.{bytes_eq}
 use Rattle.knx_base.specs.declared.address.GroupAddr.{GroupAddr}
 use Rattle.knx_base.specs.declared.address.IndAddr.{IndAddr}
@@ -8,9 +8,7 @@ use Rattle.tag_text.specs.declared.tag.Tag.{Tag}
 use Rattle.tag_text.specs.declared.tag.Tag.TheVariants.{Start, End, Finish}
 use Rattle.tag_text.specs.declared.tag.TagFault.{TagFault}
 use Rattle.tag_text.specs.Attributes.{value_named}
-use Rattle.key_tables.specs.declared.types.Channel.{Channel}
 use Rattle.key_tables.specs.declared.types.Row.{Row}
-use Rattle.key_tables.specs.Rows.{has_key}
 use Rattle.keyring_reader.specs.declared.attribute.Attribute.TheVariants.{Created, Signature, Address, Key, IndividualAddress}
 use Rattle.keyring_reader.specs.declared.fault.KeyringFault.{KeyringFault}
 use Rattle.keyring_reader.specs.declared.fault.KeyringFault.TheVariants as fault
@@ -20,11 +18,11 @@ use Rattle.keyring_reader.specs.declared.kind.Kind.TheVariants as kind
 use Rattle.keyring_reader.specs.declared.said.Said.{Said}
 use Rattle.keyring_reader.specs.declared.said.Said.TheVariants.{Nothing, GroupKey, ToolKey, Lists}
 use Rattle.keyring_reader.specs.Attributes.{name_of}
-use Rattle.keyring_reader.specs.Contents.{◌>>=◌, Element, Contents, device_at, group_at, key_at, devices_at, words_of, senders_at, listing_says, group_says, tool_says, address_says, said_of, says, with_key, taken, with_element, contents_from, contents_of}
+use Rattle.keyring_reader.specs.Contents.{◌>>=◌, Element, Contents, device_at, group_at, key_at, devices_at, words_of, senders_at, tool_says, address_says, said_of, says, taken, with_element, contents_from, contents_of}
 use Rattle.keyring_reader.specs.Signed.{first_long, signature_of}
 use Rattle.keyring_reader.specs.Keys.{stored_block, key_named}
 use Rattle.keyring_reader.specs.Kinds.{device_named, group_named}
-use Rattle.keyring_reader.specs.Keyring.{Root, Stamps, unless, root_named, root_of, stamps_in, stamps_of, is_computed, signature_fault, wrapping_of, keyring_under, IsFault}
+use Rattle.keyring_reader.specs.Keyring.{Root, Stamps, unless, root_of, stamps_in, stamps_of, is_computed, wrapping_of, keyring_under, IsFault}
 
 abbrev IsOwn : KeyringFault → Type 0
 IsOwn (fault.Tag why) = ⊥

@@ -1,5 +1,5 @@
 -- Addresses that are read from the words of a text in turn.
-use Rattle.std.proofs.Common.{◌≡◌, ◌==◌, ℕ, ◌+◌, ◌<◌, ◌≤◌, Bool, true, false, not, cond, List, [], ◌∷◌, ◌++◌, length, get_or, drop, Result, Ok, Err, refl, sym, ap, ◌∙◌, arith, lit<, suc, append_assoc, append-nil}
+use Rattle.std.proofs.Common.{◌≡◌, ◌==◌, ℕ, ◌+◌, ◌<◌, Bool, true, false, cond, List, [], ◌∷◌, ◌++◌, length, get_or, drop, Result, Ok, Err, refl, sym, ap, ◌∙◌, arith, lit<, suc, append_assoc, append-nil}
 use Rattle.std.specs.List.{filter, slice_split}
 use Rattle.std.specs.declared.str.Split.{Split}
 use Rattle.std.specs.Str.Iter.{split_steps, split_text, split_has_more, split_pattern}

@@ -1,23 +1,22 @@
 -- The block whose base64 a text is, and the block whose CBC is another.
-use Rattle.std.proofs.Common.{◌≡◌, ◌≢◌, ℕ, nat_lt, cond, inl, inr, ◌+◌, ◌/◌, ◌%◌, ◌<◌, ◌≤◌, Bool, true, false, List, [], ◌++◌, length, take, drop, get_or, replicate, Option, Some, None, Result, Ok, Err, refl, sym, ap, subst, ◌∙◌, arith, rules, length-append, append-nil}
+use Rattle.std.proofs.Common.{◌≡◌, ◌≢◌, ℕ, nat_lt, cond, inl, inr, ◌+◌, ◌/◌, Bool, true, false, List, ◌++◌, length, drop, replicate, Option, Some, None, Result, Ok, Err, refl, sym, ap, ◌∙◌, arith, length-append, append-nil}
 use Rattle.std.specs.Str.{bytes_eq}
 use Rattle.std.proofs.lemmas.Slice.Eq.{bytes_eq-Decides}
 use Rattle.std.proofs.lemmas.Bool.{cases_Bool}
-use Rattle.std.proofs.lemmas.List.{length-replicate, drop_all}
+use Rattle.std.proofs.lemmas.List.{drop_all}
 use Rattle.base64.specs.Engines.{standard}
-use Rattle.base64.specs.GeneralPurpose.{encode_of, engine_symbols, decode_of, decoded_bytes_of, decode_slice_of, IsStrict, IsBytes}
-use Rattle.base64.specs.Decode.{decode_outcome, decode_error, or_error, or_else, lone_error, groups_error, suffix_error, groups_before_last, bytes_fit, decoded_bytes, decode_slice_result}
+use Rattle.base64.specs.GeneralPurpose.{engine_symbols, decode_of, decoded_bytes_of, decode_slice_of}
+use Rattle.base64.specs.Decode.{decode_outcome, or_error, or_else, groups_before_last, bytes_fit}
 use Rattle.base64.specs.declared.decode.DecodeError.{DecodeError}
 use Rattle.base64.specs.declared.decode.DecodeSliceError.{DecodeSliceError}
 use Rattle.base64.specs.declared.decode.DecodeSliceError.TheVariants.{OutputSliceTooSmall}
-use Rattle.base64.proofs.Decoding.{or_errors}
 use Rattle.base64.proofs.EngineFacts.{decode_of_strict, decode_of-encode_of}
 use Rattle.base64.proofs.RoundTrip.{length-encode_symbols}
 use Rattle.aes_modes.specs.Cipher.{AreOctets, IsBlock}
 use Rattle.aes_modes.specs.Modes.{cbc_of}
 use Rattle.base64.specs.Rfc4648.{encode_symbols, padding_len, unpadded_len}
 use Rattle.keyring_reader.specs.Keys.{base64_of, stored_block, unwrapped}
-use Rattle.keyring_reader.proofs.BlockLemmas.{found_block, no_block}
+use Rattle.keyring_reader.proofs.BlockLemmas.{found_block, no_block, found_passes}
 
 fits_if : (small : Bool) (n : ℕ) → cond small (Err OutputSliceTooSmall) (Ok n) ≡ Ok 16 → n ≡ 16
 fits_if true n is = cc
@@ -106,3 +105,20 @@ unwrapped_is key vector plain wrapped is encrypts only length_is =
     ((bytes_eq-Decides (cbc_of key vector plain) wrapped).1 encrypts)
     (λ other is_other passes.
     sym (only other (is_other.length ∙ sym length_is) is_other.octets ((bytes_eq-Decides (cbc_of key vector other) wrapped).0 passes)))
+
+pub stored_once : (b : List ℕ) → IsBlock b → stored_block (base64_of b) ≡ Some b
+unfolding stored_block
+stored_once b is =
+    found_block (λ block. bytes_eq (base64_of block) (base64_of b)) b is ((bytes_eq-Decides (base64_of b) (base64_of b)).1 refl)
+    (λ other is_other passes.
+    same_ok other b (decode_of standard (base64_of b))
+    (ap (decode_of standard) (sym ((bytes_eq-Decides (base64_of other) (base64_of b)).0 passes)) ∙ encoding_decodes other is_other) (encoding_decodes b is))
+
+pub stored_only : (text b : List ℕ) → stored_block text ≡ Some b → base64_of b ≡ text
+unfolding stored_block
+stored_only text b is = (bytes_eq-Decides (base64_of b) text).0 (found_passes (λ block. bytes_eq (base64_of block) text) b is)
+
+pub wrapped_only : (key vector wrapped plain : List ℕ) → unwrapped key vector wrapped ≡ Some plain → cbc_of key vector plain ≡ wrapped
+unfolding unwrapped
+wrapped_only key vector wrapped plain is =
+    (bytes_eq-Decides (cbc_of key vector plain) wrapped).0 (found_passes (λ block. bytes_eq (cbc_of key vector block) wrapped) plain is)

@@ -1,11 +1,11 @@
 -- What a reader gives in turn is the document.
-use Rattle.std.proofs.Common.{◌≡◌, ℕ, List, [], ◌++◌, Option, Some, None, Ok, Err, sym, ap, ◌∙◌, append-nil}
+use Rattle.std.proofs.Common.{◌≡◌, ℕ, List, Option, Some, Ok, Err, ap, ◌∙◌, append-nil}
 use Rattle.std.specs.Option.{option_map}
 use Rattle.tag_text.specs.declared.tag.Tag.{Tag}
 use Rattle.tag_text.specs.declared.tag.Tag.TheVariants as given
 use Rattle.tag_text.specs.declared.tag.TagFault.{TagFault}
 use Rattle.tag_text.specs.declared.tag.TagFault.TheVariants as tag
-use Rattle.tag_text.specs.Document.{Left, outcome_of, events_of, document_fault}
+use Rattle.tag_text.specs.Document.{Left, outcome_of, events_of}
 use Rattle.tag_text.specs.Reader.{Gives}
 use Rattle.tag_text.specs.Scan.{after_tags, only}
 use Rattle.keyring_reader.specs.declared.fault.KeyringFault.TheVariants as fault

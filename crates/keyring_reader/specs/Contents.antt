@@ -1,5 +1,5 @@
 -- What the elements of a keyring say, or the first that is refused.
-use Rattle.std.specs.Prelude.{◌≡◌, ℕ, ◌==◌, not, if◌then◌else◌, Bool, true, false, List, [], ◌∷◌, ◌++◌, codes, Option, Some, None, Result, Ok, Err}
+use Rattle.std.specs.Prelude.{ℕ, ◌==◌, not, if◌then◌else◌, Bool, List, [], ◌∷◌, ◌++◌, codes, Option, Some, None, Result, Ok, Err}
 use Rattle.std.specs.Option.{option_to_list, ok_or, unwrap_or}
 use Rattle.std.specs.List.{filter, slice_split}
 use Rattle.knx_base.specs.declared.address.GroupAddr.{GroupAddr}

@@ -1,9 +1,9 @@
 -- What a keyring gives: its rows, or why it is refused.
-use Rattle.std.specs.Prelude.{◌≡◌, ℕ, if◌then◌else◌, Bool, true, false, List, [], ◌∷◌, codes, Option, Some, None, Result, Ok, Err}
+use Rattle.std.specs.Prelude.{◌≡◌, ℕ, if◌then◌else◌, Bool, false, List, ◌∷◌, codes, Option, Some, None, Result, Ok, Err}
 use Rattle.std.specs.Option.{option_map}
 use Rattle.std.specs.Str.{bytes_eq}
 use Rattle.tag_text.specs.declared.tag.Tag.{Tag}
-use Rattle.tag_text.specs.declared.tag.Tag.TheVariants.{Start, End, Finish}
+use Rattle.tag_text.specs.declared.tag.Tag.TheVariants.{Start}
 use Rattle.tag_text.specs.declared.tag.TagFault.{TagFault}
 use Rattle.tag_text.specs.declared.tag.TagFault.TheVariants as tag
 use Rattle.tag_text.specs.Document.{events_of, document_fault}

@@ -1,4 +1,4 @@
-use Rattle.std.proofs.Common.{◌≡◌, [], refl, ap, sym, ◌∙◌, rules}
+use Rattle.std.proofs.Common.{[], ap, ◌∙◌, rules}
 use Rattle.keyring_reader.specs.Kinds.{kind_in}
 use Rattle.keyring_reader.specs.Contents.{contents_of, contents_from, elements_in, innermost}
 use Rattle.keyring_reader.specs.Keyring.{IsFault}

@@ -1,4 +1,4 @@
-use Rattle.std.proofs.Common.{sym, ◌∙◌, ◌<◌, ◌≤◌, length, arith}
+use Rattle.std.proofs.Common.{sym, ◌∙◌, arith}
 use Rattle.keyring_reader.proofs.FormLemmas.{here_long, not_here}
 use Rattle.keyring_reader.proofs.form.has_long.Goals.{in-Some+else-is_signed_and_long, in_default}
 use Rattle.keyring_reader.proofs.form.has_long.Goals as goal

@@ -1,4 +1,4 @@
-use Rattle.std.proofs.Common.{◌≡◌, fold, List, [], refl, ap, sym, ◌∙◌, subst}
+use Rattle.std.proofs.Common.{◌≡◌, fold, [], ap, sym, ◌∙◌}
 use Rattle.std.specs.Option.{option_map, unwrap_or}
 use Rattle.std.specs.BTreeMap as tree
 use Rattle.std.specs.BTreeSet.{keys, insert_key}

@@ -1,8 +1,7 @@
-use Rattle.std.proofs.Common.{◌≡◌, ℕ, List, Ok, Some, Result, length, drop, ◌++◌, sym, ap, refl, subst, replicate, ◌∙◌, arith, rules}
+use Rattle.std.proofs.Common.{◌≡◌, ℕ, Ok, sym, ap, refl, subst, replicate, ◌∙◌, arith}
 use Rattle.aes_modes.specs.Cipher.{AreOctets}
 use Rattle.base64.specs.Engines.{standard}
-use Rattle.base64.specs.GeneralPurpose.{decoded_bytes_of, decode_slice_of}
-use Rattle.base64.specs.declared.decode.DecodeSliceError.{DecodeSliceError}
+use Rattle.base64.specs.GeneralPurpose.{decode_slice_of}
 use Rattle.keyring_reader.specs.Keys.{stored_block}
 use Rattle.keyring_reader.proofs.StoredLemmas.{stored_found, stored_not}
 use Rattle.keyring_reader.proofs.keys.stored_block.Goals as goal

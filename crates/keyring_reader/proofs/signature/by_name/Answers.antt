@@ -1,6 +1,5 @@
-use Rattle.std.proofs.Common.{◌≡◌, ℕ, ◌<◌, ◌≤◌, ◌∙◌, List, map, fold, drop, length, ap, sym, subst, refl, arith}
-use Rattle.std.specs.List.{filter}
-use Rattle.keyring_reader.specs.Signed.{is_signed, placed, by_name}
+use Rattle.std.proofs.Common.{◌∙◌, map, ap, sym, refl, arith}
+use Rattle.keyring_reader.specs.Signed.{by_name}
 use Rattle.keyring_reader.specs.Texts.{deref_texts}
 use Rattle.keyring_reader.proofs.SignedLemmas.{shown, one_placed, none_placed}
 use Rattle.keyring_reader.proofs.signature.by_name.Goals.{in-Some+then-is_signed+in_ok-insert, in-Some+else-is_signed, in_default}

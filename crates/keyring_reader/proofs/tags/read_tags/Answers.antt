@@ -1,5 +1,4 @@
-use Rattle.std.proofs.Common.{Ok, Err, ap, subst, sym}
-use Rattle.tag_text.specs.Reader.{Gives}
+use Rattle.std.proofs.Common.{subst, sym}
 use Rattle.keyring_reader.specs.Keyring.{IsFault, tags_of}
 use Rattle.keyring_reader.proofs.TagLemmas.{refused, finished}
 use Rattle.keyring_reader.proofs.tags.read_tags.Goals as goal

@@ -1,4 +1,4 @@
-use Rattle.std.proofs.Common.{◌≡◌, ℕ, length}
+use Rattle.std.proofs.Common.{◌≡◌, length}
 use Rattle.tag_text.specs.Document.{outcome_of}
 use Rattle.tag_text.specs.Scan.{after_tags}
 use Rattle.keyring_reader.proofs.tags.read_tags.Given as goal

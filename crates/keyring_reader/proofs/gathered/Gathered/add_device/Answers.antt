@@ -1,6 +1,5 @@
 use Rattle.std.proofs.Common.{sym, ◌∙◌, ◌++◌, ◌∷◌, []}
 use Rattle.key_tables.specs.declared.types.Channel.TheVariants as channel
-use Rattle.key_tables.specs.declared.types.Level.TheVariants.{Auth}
 use Rattle.key_tables.specs.declared.types.Row.TheVariants as row
 use Rattle.keyring_reader.proofs.HoldingLemmas.{taken_once, not_known, one_device}
 use Rattle.keyring_reader.proofs.gathered.Gathered.add_device.Goals as goal

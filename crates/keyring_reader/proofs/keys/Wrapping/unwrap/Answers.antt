@@ -1,6 +1,5 @@
-use Rattle.std.proofs.Common.{sym, ap, length, ◌∙◌, subst, ℕ, List, Some, ◌≡◌}
+use Rattle.std.proofs.Common.{sym, ap, length, ◌∙◌, subst, Some, ◌≡◌}
 use Rattle.aes_modes.specs.Cipher.{IsBlock}
-use Rattle.keyring_reader.specs.Keys.{unwrapped}
 use Rattle.keyring_reader.proofs.StoredLemmas.{unwrapped_is}
 use Rattle.keyring_reader.proofs.keys.Wrapping.unwrap.Goals as goal
 

@@ -1,0 +1,31 @@
+ghost use Rattle.std.specs.Prelude.{◌≡◌, ◌==◌, ℕ, List, Some, map};
+ghost use Rattle.std.specs.List.{list_any};
+ghost use Rattle.std.specs.List.Sorted.{IsStrictlySortedBy};
+ghost use Rattle.std.specs.Ordering.{nat_cmp};
+ghost use Rattle.std.specs.Cmp.Lexicographic.{slice_cmp};
+ghost use Rattle.aes_modes.specs.Cipher.{IsBlock};
+ghost use Rattle.aes_modes.specs.Modes.{cbc_of};
+ghost use Rattle.knx_base.specs.declared.address.GroupAddr.{GroupAddr};
+ghost use Rattle.knx_base.specs.declared.address.IndAddr.{IndAddr};
+ghost use Rattle.keyring_reader.specs.Holding.{by_group, by_device};
+ghost use Rattle.keyring_reader.specs.Keys.{base64_of, stored_block, unwrapped};
+ghost use Rattle.keyring_reader.specs.Roles.{ascending};
+ghost use Rattle.keyring_reader.specs.Signed.{by_name};
+
+/// The groups, the devices and the senders that role rows are told of ascend, and are those of the list that is put in order;
+/// the names of the attributes that are signed ascend.
+pub fn lists_ascend()
+    ensures groups { (groups : List GroupAddr) → IsStrictlySortedBy by_group (ascending (λ group. group.0) groups) }
+    ensures same_groups { (groups : List GroupAddr) (n : ℕ) → list_any (λ group. group.0 == n) (ascending (λ group. group.0) groups) ≡ list_any (λ group. group.0 == n) groups }
+    ensures devices { (devices : List IndAddr) → IsStrictlySortedBy by_device (ascending (λ device. device.0) devices) }
+    ensures same_devices { (devices : List IndAddr) (n : ℕ) → list_any (λ device. device.0 == n) (ascending (λ device. device.0) devices) ≡ list_any (λ device. device.0 == n) devices }
+    ensures names { (attributes : List (List ℕ × List ℕ)) → IsStrictlySortedBy (slice_cmp nat_cmp) (map (λ attribute. attribute.0) (by_name attributes)) }
+{}
+
+/// A text is the base64 of one block at most, and every block has its text; a key that is unwrapped has the wrapped one as its
+/// CBC.
+pub fn blocks_are_found()
+    ensures encoded { (block : List ℕ) → IsBlock block → stored_block (base64_of block) ≡ Some block }
+    ensures stored { (text block : List ℕ) → stored_block text ≡ Some block → base64_of block ≡ text }
+    ensures wrapped { (key vector wrapped plain : List ℕ) → unwrapped key vector wrapped ≡ Some plain → cbc_of key vector plain ≡ wrapped }
+{}
