@@ -5,6 +5,7 @@ use std::rt;
 use std::test::Fail;
 
 mod audits;
+mod keyrings;
 
 const KEY: &str = "000102030405060708090a0b0c0d0e0f";
 

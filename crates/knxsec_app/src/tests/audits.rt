@@ -91,6 +91,18 @@ fn each_record_is_judged_by_those_before_it(rt: HostRuntime) -> Result<(), Fail>
             "1 1.1.7 > 1/2/3 role needs command has observe !\n2 1.1.7 > 1/2/3 stale kept 5 got 5 !\ntotal 2 accepted 0 sync 0 alarms 2\n",
             Status::Alarm,
         ),
+    ];
+    for (tables, frames, report, ended) in rows {
+        let (out, status) = audited(rt.alloc(), tables, frames, 1_000_000)?;
+        assert_eq!(rt; out.bytes(), report.as_bytes());
+        assert_eq!(rt; status, ended);
+    }
+    Ok(())
+}
+
+#[test]
+fn a_readable_telegram_is_kept_whatever_its_level(rt: HostRuntime) -> Result<(), Fail> {
+    let rows = [
         (
             TABLES,
             READABLE,

@@ -1,0 +1,136 @@
+ghost use Rattle.std.specs.Prelude.{◌≡◌, ◌∷◌, [], map, codes, IfOk};
+ghost use Rattle.std.specs.String.{string_bytes};
+
+use crate::{Status, run};
+use knx_base::{MemFiles, MemSink, NoMemory};
+use std::alloc::Global;
+use std::test::Fail;
+
+// Signed, and its keys wrapped, by another program, under the password `test-password`.
+const HOUSE: &str = r#"<?xml version="1.0" encoding="utf-8"?>
+<Keyring Project="House" CreatedBy="ETS" Created="2024-03-01T10:00:00" Signature="bc3iyTunJTlYq6ukzr+EyA==" xmlns="http://knx.org/xml/keyring/1">
+  <Interface Type="USB" IndividualAddress="1.1.1">
+    <Group Address="1/0/1" Senders="1.1.10 1.1.11" />
+    <Group Address="1/0/2" Senders="1.1.10" />
+  </Interface>
+  <Interface Type="Tunneling" Host="1.1.2" IndividualAddress="1.1.3">
+    <Group Address="1/0/3" Senders="1.1.12" />
+  </Interface>
+  <GroupAddresses>
+    <Group Address="1/0/1" Key="OVTJH6p8l1YNy+TWj5rt1A==" />
+    <Group Address="1/0/2" Key="0MCjwH6uKOJVjXx4HYHP1Q==" />
+    <Group Address="1/0/3" Key="6mkhcwURMYAci34HWCcj/w==" />
+    <Group Address="1/0/4" Key="Ge6DpjVywl5yellg22vriQ==" />
+    <Group Address="1/0/5" Key="lNArBTZAoVIOIXuGh9fNQg==" />
+    <Group Address="1/0/6" Key="i/eckhW6z6lPR1PJ4HPMgg==" />
+  </GroupAddresses>
+  <Devices>
+    <Device IndividualAddress="1.1.10" ToolKey="paqGwK2BRZxBY76Sj/WHcw==" SequenceNumber="1000" />
+    <Device IndividualAddress="1.1.11" ToolKey="SDCxUkSAJDtwe8DuvJ5lbQ==" SequenceNumber="1000" />
+    <Device IndividualAddress="1.1.12" ToolKey="kRNj65Kl8N/7HdUvl6ZwHg==" SequenceNumber="1000" />
+  </Devices>
+</Keyring>
+"#;
+
+/// One telegram to each of two groups of the keyring, by different senders, each a GroupValue_Write of 1 that another program
+/// has sealed under the key of its group.
+const FRAMES: &str =
+    "2900bce0110a08010e03f110000000000001362b1d3d40f2\n2900bce0111408060e03f11000000000000c8ce297509ace\n";
+
+const REPORT: &str =
+    "1 1.1.10 > 1/0/1 accepted number 1 GroupValue_Write 0081\n2 1.1.20 > 1/0/6 accepted number 12 GroupValue_Write 0081\ntotal 2 accepted 2 sync 0 alarms 0\n";
+
+fn audit_words(alloc: Global) -> Result<Vec<String>, NoMemory>
+    ensures { IfOk result (λ words. map string_bytes words.items ≡ codes "audit-keyring" ∷ codes "keyring" ∷ codes "password" ∷ codes "tables" ∷ codes "frames" ∷ []) }
+{
+    let mut words = Vec::new(alloc);
+    words.push(String::from_str(alloc, "audit-keyring")?)?;
+    words.push(String::from_str(alloc, "keyring")?)?;
+    words.push(String::from_str(alloc, "password")?)?;
+    words.push(String::from_str(alloc, "tables")?)?;
+    words.push(String::from_str(alloc, "frames")?)?;
+    Ok(words)
+}
+
+// What an audit by a keyring prints, and its status.
+fn audited(
+    alloc: Global,
+    keyring: &str,
+    password: &str,
+    tables: &str,
+) -> Result<(MemSink, Status), Fail> {
+    if keyring.len() > 5000 || password.len() > 5000 || tables.len() > 1000 {
+        return Err(Fail::from("a short text"));
+    }
+    let words = audit_words(alloc)?;
+    let mut files = MemFiles::new(alloc);
+    files.add("keyring", keyring.as_bytes())?;
+    files.add("password", password.as_bytes())?;
+    files.add("tables", tables.as_bytes())?;
+    files.add("frames", FRAMES.as_bytes())?;
+    let mut out = MemSink::new(alloc, 1000)?;
+    let status = run(alloc, &words, &mut files, &mut out);
+    Ok((out, status))
+}
+
+#[test]
+fn a_keyring_opens_its_telegrams(rt: HostRuntime) -> Result<(), Fail> {
+    for password in [
+        "test-password",
+        "test-password\n",
+        "test-password\r\nmore\n",
+    ] {
+        let (out, status) = audited(rt.alloc(), HOUSE, password, "")?;
+        assert_eq!(rt; out.bytes(), REPORT.as_bytes());
+        assert_eq!(rt; status, Status::Done);
+    }
+    Ok(())
+}
+
+#[test]
+fn tables_stand_over_the_keyring(rt: HostRuntime) -> Result<(), Fail> {
+    let (out, status) = audited(rt.alloc(), HOUSE, "test-password", "role 1/0/1 any observe")?;
+    let report =
+        b"1 1.1.10 > 1/0/1 role needs command has observe !\n2 1.1.20 > 1/0/6 accepted number 12 GroupValue_Write 0081\ntotal 2 accepted 1 sync 0 alarms 1\n";
+    assert_eq!(rt; out.bytes(), report.as_slice());
+    assert_eq!(rt; status, Status::Alarm);
+    Ok(())
+}
+
+#[test]
+fn refused_files_end_the_report(rt: HostRuntime) -> Result<(), Fail> {
+    let alloc = rt.alloc();
+    let long = "0".repeat(alloc, 4097)?;
+    let rows = [
+        ("<Keys/>", long.as_str(), "", "refused password long\n"),
+        ("<Keys/>", "", "group", "refused keyring root\n"),
+        ("<Keyring>", "", "", "refused keyring at 9 bad\n"),
+        (
+            "<Keyring/>",
+            "",
+            "",
+            "refused keyring at 0 missing Created\n",
+        ),
+        (
+            HOUSE,
+            "test-password",
+            "group",
+            "refused tables line 1 words\n",
+        ),
+    ];
+    for (keyring, password, tables, report) in rows {
+        let (out, status) = audited(alloc, keyring, password, tables)?;
+        assert_eq!(rt; out.bytes(), report.as_bytes());
+        assert_eq!(rt; status, Status::Refused);
+    }
+    Ok(())
+}
+
+#[test]
+fn another_document_has_another_signature(rt: HostRuntime) -> Result<(), Fail> {
+    let changed = HOUSE.replace(rt.alloc(), "House", "Hause")?;
+    let (out, status) = audited(rt.alloc(), &changed, "test-password", "")?;
+    assert!(rt; out.bytes().starts_with(b"refused keyring signature "));
+    assert_eq!(rt; status, Status::Refused);
+    Ok(())
+}
