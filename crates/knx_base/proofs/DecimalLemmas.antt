@@ -1,5 +1,5 @@
 -- A decimal is read as its number, and only a decimal is.
-use Rattle.std.proofs.Common.{◌≡◌, ℕ, ◌-◌, ◌^◌, ◌<◌, ◌≤◌, Bool, true, false, cond, List, [], ◌∷◌, length, get_or, Option, Some, None, Result, Ok, Err, inl, inr, refl, sym, ap, ◌∙◌, arith}
+use Rattle.std.proofs.Common.{◌≡◌, ℕ, ◌-◌, ◌^◌, ◌<◌, ◌≤◌, Bool, true, false, cond, List, [], ◌∷◌, length, get_or, Option, Some, None, Result, Ok, Err, ◌⊎◌, inl, inr, refl, sym, ap, ◌∙◌, arith}
 use Rattle.std.specs.Prelude.{option_map, IfSome, IfNone}
 use Rattle.std.specs.Fmt.{decimal}
 use Rattle.std.specs.Str.{bytes_eq}
@@ -10,7 +10,11 @@ use Rattle.std.proofs.lemmas.Bool.Decides.{nat_tests}
 use Rattle.std.proofs.lemmas.Fmt.{decimal_digit, decimal_nonempty, first_decimal, digits_decimal, digits_value-decimal, decimal-digits_value, parse-decimal}
 use Rattle.std.proofs.lemmas.Slice.Eq.{bytes_eq-Decides}
 use Rattle.std.proofs.lemmas.Str.Parse.{IsNumeralModel, not_in_digits, parse_plain}
-use Rattle.knx_base.specs.Decimal.{IsDecimal, IsPadded, decimal_number, at_most, decimal_up_to}
+use Rattle.knx_base.specs.Decimal.{IsDecimal, decimal_number, at_most, decimal_up_to}
+
+-- A plus stands in front, or a zero before something else.
+abbrev pub IsPadded : List ℕ → Type 0
+IsPadded text = (get_or text 0 0 ≡ 43) ⊎ ((get_or text 0 0 ≡ 48) × (1 < length text))
 
 pub own : IsNumeralModel (AllDigits 10) (digits_value 10)
 own = record { to = λ ds d. d; from = λ ds d. d; same = λ ds d. refl }

@@ -6,6 +6,7 @@ mod Pieces
 mod AddressLemmas
 pub mod Places
 mod LineTexts
+mod LineSays
 pub mod Readers
 mod LineReads
 mod WholeFiles

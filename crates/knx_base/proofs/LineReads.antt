@@ -8,9 +8,9 @@ use Rattle.std.proofs.lemmas.List.Elements.{All-append, All-cons, All-nil, All-h
 use Rattle.std.proofs.lemmas.List.Splits.{slice_split-cons_no, slice_split_none, slice_split_at, length-slice_split}
 use Rattle.knx_base.specs.Files.{Seen}
 use Rattle.knx_base.specs.Lines.{most_octets}
-use Rattle.knx_base.specs.Reading.{WhereTold, ahead, BeginsLong, ReadsLine, by_length, last_of}
+use Rattle.knx_base.specs.Reading.{WhereTold, ahead, BeginsLong, ReadsLine}
 use Rattle.knx_base.specs.declared.text_line.LineRead.{LineRead}
-use Rattle.knx_base.specs.declared.text_line.LineRead.TheVariants.{Whole, Long}
+use Rattle.knx_base.specs.declared.text_line.LineRead.TheVariants.{End, Whole, Long}
 
 -- a text without a line feed
 abbrev NoFeed : ℕ → Type 0
@@ -66,6 +66,10 @@ long_line part more none long = by (slice_split (λ octet. eqb octet 10) more) r
 
 -- ---- the three exits
 
+-- whether a line is too long
+abbrev by_length : List ℕ → LineRead
+by_length line = cond (nat_lt most_octets (length line)) Long Whole
+
 -- a line with its length, for the lines that go on from it
 reads_by_length : (start next : Seen) (held kept line : List ℕ) → WhereTold start (λ octets. lines (ahead start held octets) ≡ line ∷ lines (ahead next kept octets))
     → ReadsLine start next held kept line (by_length line)
@@ -81,12 +85,12 @@ reads_to_feed start next held kept line stripped read none stripped_is read_is g
     subst (ReadsLine start next held kept stripped) (sym read_is) (reads_by_length start next held kept stripped (λ octets has.
     ap lines (given octets has) ∙ line_ended line (ahead next kept octets) none ∙ ap (λ (first : List ℕ). first ∷ lines (ahead next kept octets)) (sym stripped_is)))
 
-pub reads_to_end : (start next : Seen) (held kept line : List ℕ) (read : LineRead) → IsOneLine line → read ≡ last_of line
+pub reads_to_end : (start next : Seen) (held kept line : List ℕ) (read : LineRead) → IsOneLine line → (line ≡ [] → read ≡ End) → (line ≢ [] → read ≡ by_length line)
     → (kept ≡ []) × WhereTold start (λ octets. (ahead start held octets ≡ line) × (drop next.place octets ≡ [])) → ReadsLine start next held kept line read
-reads_to_end start next held kept [] read none read_is ended =
-    subst (ReadsLine start next held kept []) (sym read_is) (ended.0, λ octets has. (ap lines (ended.1 octets has).0, (ended.1 octets has).1))
-reads_to_end start next held kept (octet ∷ line) read none read_is ended =
-    subst (ReadsLine start next held kept (octet ∷ line)) (sym read_is) (reads_by_length start next held kept (octet ∷ line) (λ octets has.
+reads_to_end start next held kept [] read none end_is line_is ended =
+    subst (ReadsLine start next held kept []) (sym (end_is refl)) (ended.0, λ octets has. (ap lines (ended.1 octets has).0, (ended.1 octets has).1))
+reads_to_end start next held kept (octet ∷ line) read none end_is line_is ended =
+    subst (ReadsLine start next held kept (octet ∷ line)) (sym (line_is (λ nothing. cc))) (reads_by_length start next held kept (octet ∷ line) (λ octets has.
     let last = ended.1 octets has in
     let nothing : ahead next kept octets ≡ [] = ap (λ (front : List ℕ). front ++ drop next.place octets) ended.0 ∙ last.1 in
     ap lines last.0 ∙ last_line octet line none ∙ ap (λ (rest : List ℕ). (octet ∷ line) ∷ lines rest) (sym nothing)))

@@ -33,7 +33,7 @@ not_not : (b : Bool) → not b ≡ true → b ≡ false
 not_not true e = absurd cc
 not_not false e = refl
 
-words_of-blank : (octet : ℕ) (text : List ℕ) → is_blank octet ≡ true → words_of (octet ∷ text) ≡ words_of text
+pub words_of-blank : (octet : ℕ) (text : List ℕ) → is_blank octet ≡ true → words_of (octet ∷ text) ≡ words_of text
 words_of-blank octet text e = ap (filter is_word) (slice_split-cons_yes is_blank octet text e)
 
 at_blank : (octet : ℕ) (text : List ℕ) → is_blank octet ≡ true → position_or_len is_blank (octet ∷ text) ≡ 0
@@ -74,13 +74,15 @@ first_part (octet ∷ text) = by (is_blank octet) refl (first_part text)
         record { parts = rest.parts; split = slice_split-cons_no is_blank octet text e ∙ ap (onto_first octet) rest.split; words = rest.words } in
         subst (FirstPart (octet ∷ text)) (sym (before_blank octet text e)) later
 
+pub word_begins : (octet : ℕ) (text : List ℕ) → is_blank octet ≡ false
+    → words_of (octet ∷ text) ≡ (octet ∷ take (position_or_len is_blank text) text) ∷ words_of (drop (position_or_len is_blank text) text)
+word_begins octet text e =
+    let first = first_part text in
+    ap (filter is_word) (slice_split-cons_no is_blank octet text e ∙ ap (onto_first octet) first.split) ∙ ap (λ (words : List (List ℕ)). (octet ∷ take (position_or_len is_blank text) text) ∷ words) first.words
+
 word_first : (octet : ℕ) (text : List ℕ) → is_blank octet ≡ false
     → words_of (octet ∷ text) ≡ take (position_or_len is_blank (octet ∷ text)) (octet ∷ text) ∷ words_of (drop (position_or_len is_blank (octet ∷ text)) (octet ∷ text))
-word_first octet text e =
-    let first = first_part text in
-    let split : words_of (octet ∷ text) ≡ (octet ∷ take (position_or_len is_blank text) text) ∷ words_of (drop (position_or_len is_blank text) text) =
-    ap (filter is_word) (slice_split-cons_no is_blank octet text e ∙ ap (onto_first octet) first.split) ∙ ap (λ (words : List (List ℕ)). (octet ∷ take (position_or_len is_blank text) text) ∷ words) first.words in
-    split ∙ ap (λ (n : ℕ). take n (octet ∷ text) ∷ words_of (drop n (octet ∷ text))) (sym (before_blank octet text e))
+word_first octet text e = word_begins octet text e ∙ ap (λ (n : ℕ). take n (octet ∷ text) ∷ words_of (drop n (octet ∷ text))) (sym (before_blank octet text e))
 
 length_or_place : (b : Bool) (place all : ℕ) → (b ≡ false → place ≡ all) → unwrap_or (cond b (Some place) None) all ≡ place
 length_or_place true place all at_end = refl
@@ -112,7 +114,7 @@ word_cut text rest begin end found rest_is end_is =
     let until : unwrap_or end (length rest) ≡ position_or_len is_blank rest = ap (λ (o : Option ℕ). unwrap_or o (length rest)) end_is ∙ place_or_length is_blank rest in
     skipped ∙ word_at_front rest some letter ∙ ap (λ (n : ℕ). take n rest ∷ words_of (drop n rest)) (sym until)
 
-both_true : (a b : Bool) → (a && b) ≡ true → (a ≡ true) × (b ≡ true)
+pub both_true : (a b : Bool) → (a && b) ≡ true → (a ≡ true) × (b ≡ true)
 both_true true b e = (refl, e)
 both_true false b e = absurd cc
 

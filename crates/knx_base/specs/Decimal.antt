@@ -1,5 +1,5 @@
 -- Decimals in texts: one or more digits 0 to 9, no sign, no leading zero but in 0 itself.
-use Rattle.std.specs.Prelude.{◌≡◌, ℕ, ◌<◌, ◌⊎◌, List, length, slice_index, Option, Some, None, nat_eq, nat_le, if◌then◌else◌}
+use Rattle.std.specs.Prelude.{◌≡◌, ℕ, List, Option, Some, None, nat_eq, nat_le, if◌then◌else◌}
 use Rattle.std.specs.Fmt.{decimal}
 use Rattle.std.specs.Str.Parse.{digits_value}
 use Rattle.std.specs.Cmp.Lexicographic.{pointwise}
@@ -20,7 +20,3 @@ at_most most (Some n) = if nat_le n most then Some n else None
 -- the same up to a limit
 unfoldable pub decimal_up_to : ℕ → List ℕ → Option ℕ
 decimal_up_to most text = at_most most (decimal_number text)
-
--- A plus stands in front, or a zero before something else.
-abbrev pub IsPadded : List ℕ → Type 0
-IsPadded text = (slice_index text 0 ≡ 43) ⊎ ((slice_index text 0 ≡ 48) × (1 < length text))

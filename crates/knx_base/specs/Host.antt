@@ -5,6 +5,8 @@ use Rattle.knx_base.specs.Files.{Seen}
 pub record HostState : Type 0 where
   -- no name where a file is current
   pub current : Option (List ℕ)
+  -- the octets that the host will still give of it, where the host tells them
+  pub remaining : Option (List ℕ)
   pub place : ℕ
   pub faults : ℕ
 

@@ -1,5 +1,5 @@
 -- Reading the current file through a store of octets that were read and not yet taken: the held octets.
-use Rattle.std.specs.Prelude.{◌≡◌, ◌≢◌, ℕ, ◌+◌, ◌-◌, ◌<◌, ◌≤◌, List, [], ◌∷◌, ◌++◌, length, drop, Option, Some, None, IsSome, MatchOption, nat_lt, if◌then◌else◌}
+use Rattle.std.specs.Prelude.{◌≡◌, ◌≢◌, ℕ, ◌+◌, ◌-◌, ◌<◌, ◌≤◌, List, [], ◌∷◌, ◌++◌, length, drop, Option, Some, None, IsSome, MatchOption}
 use Rattle.std.specs.Option.{IsSomeAnd}
 use Rattle.std.specs.Str.Lines.{lines}
 use Rattle.knx_base.specs.Files.{Seen, Holds, last_place}
@@ -61,15 +61,6 @@ abbrev pub ReadsLine : Seen → Seen → List ℕ → List ℕ → List ℕ → 
 ReadsLine old new held kept line End = (kept ≡ []) × WhereTold old (λ octets. (lines (ahead old held octets) ≡ []) × (drop new.place octets ≡ []))
 ReadsLine old new held kept line Whole = (length line ≤ most_octets) × WhereTold old (λ octets. lines (ahead old held octets) ≡ line ∷ lines (ahead new kept octets))
 ReadsLine old new held kept line Long = WhereTold old (λ octets. BeginsLong (lines (ahead old held octets)))
-
--- whether a line of so many octets is too long
-abbrev pub by_length : List ℕ → LineRead
-by_length line = if nat_lt most_octets (length line) then Long else Whole
-
--- what stands before the end of a file: a line, or nothing
-abbrev pub last_of : List ℕ → LineRead
-last_of [] = End
-last_of (octet ∷ line) = by_length (octet ∷ line)
 
 -- Reading to the end of a file, where so many octets are the most: the octets ahead, and the end was reached; or there are more.
 abbrev pub ReadsRest : ℕ → List ℕ → List ℕ → Option (List ℕ) → Type 0

@@ -1,4 +1,4 @@
-ghost use Rattle.std.specs.Prelude.{◌≡◌, List, ℕ};
+ghost use Rattle.std.specs.Prelude.{◌≡◌, List, ℕ, Some};
 ghost use Rattle.knx_base.specs.Cause.{cause_word};
 
 use std::fmt;
@@ -51,6 +51,8 @@ impl Cause {
 }
 
 impl fmt::Display for Cause {
+    ghost output = { λ cause. Some (cause_word cause) };
+
     fn fmt<W: fmt::Write>(&self, f: &mut fmt::Formatter<W>) -> fmt::Result {
         f.write_str(self.word())
     }

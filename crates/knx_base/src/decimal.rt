@@ -1,6 +1,6 @@
-ghost use Rattle.std.specs.Prelude.{◌≡◌, ℕ, ◌+◌, ◌-◌, ◌^◌, ◌<◌, ◌≤◌, ◌↔◌, [], ◌∷◌, ◌++◌, length, take, drop, IsTrue, IfSome, IfNone};
+ghost use Rattle.std.specs.Prelude.{◌≡◌, ℕ, ◌+◌, ◌-◌, ◌^◌, ◌<◌, ◌≤◌, ◌↔◌, ◌⊎◌, [], ◌∷◌, ◌++◌, length, take, drop, slice_index, IsTrue, IfSome, IfNone};
 ghost use Rattle.std.specs.Fmt.{decimal};
-ghost use Rattle.knx_base.specs.Decimal.{IsDecimal, IsPadded, at_most, decimal_up_to};
+ghost use Rattle.knx_base.specs.Decimal.{IsDecimal, at_most, decimal_up_to};
 
 /// The number that the text is the decimal of, up to `most`. A decimal has one or more digits, no sign, and no
 /// leading zero but in `0` itself.
@@ -32,7 +32,7 @@ fn parse_decimal(text: &str) -> Option<u64>
 
 // A plus stands in front, or a zero before something else.
 fn is_padded(text: &str) -> bool
-    ensures { IsTrue result ↔ IsPadded text.now }
+    ensures { IsTrue result ↔ (slice_index text.now 0 ≡ 43) ⊎ ((slice_index text.now 0 ≡ 48) × (1 < length text.now)) }
 {
     match text.as_bytes() {
         [b'+', ..] | [b'0', _, ..] => true,

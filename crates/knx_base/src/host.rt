@@ -1,8 +1,9 @@
-ghost use Rattle.std.specs.Prelude.{◌≡◌, ℕ, ◌≤◌, ◌<◌, None, Some, [], Option, List, length, IsSome, IsErr, IfOk};
+ghost use Rattle.std.specs.Prelude.{◌≡◌, ℕ, ◌≤◌, ◌<◌, None, Some, [], Option, List, length, IsSome, IsErr, IfOk, OnErr, option_and_then};
 ghost use Rattle.std.specs.Option.{option_map};
-ghost use Rattle.std.specs.Io.{ReadsAtMost};
-ghost use Rattle.knx_base.specs.Faults.{counted};
-ghost use Rattle.knx_base.specs.Files.{Seen, Reads, last_place};
+ghost use Rattle.std.specs.Io.KnownBytes.{ReadConsumes};
+ghost use Rattle.knx_base.specs.Faults.{counted, CountsFault, HasCause};
+ghost use Rattle.knx_base.specs.Files.{Seen, Opens, Reads, last_place};
+ghost use Rattle.knx_base.specs.Sink.{TakesPiece};
 ghost use Rattle.knx_base.specs.Host.{HostState, seen_of};
 
 use crate::{Failed, Files, LAST_PLACE, Sink};
@@ -39,7 +40,11 @@ impl<R: Print> Sink for HostSink<'_, R> {
 
     ghost faults = { λ faults. faults };
 
-    fn write(&mut self, bytes: &[u8]) -> Result<usize, Failed> {
+    fn write(&mut self, bytes: &[u8]) -> Result<usize, Failed>
+        ensures taken { TakesPiece None None result bytes.now }
+        ensures cause { HasCause self.old self.new result }
+        ensures counted { CountsFault self.old self.new result }
+    {
         match print_some(self.host, bytes) {
             Ok(count) if count > 0 => Ok(count),
             _ => Err(fail(&mut self.faults)),
@@ -60,7 +65,7 @@ pub struct HostFiles<'a, R: rt::Files> {
 impl<'a, R: rt::Files> Model for HostFiles<'a, R> {
     ghost Value = { HostState };
 
-    ghost view = { λ s. record { current = option_map (λ _. []) s.file; place = s.place; faults = s.faults } };
+    ghost view = { λ s. record { current = option_map (λ _. []) s.file; remaining = option_and_then R.File.remaining s.file; place = s.place; faults = s.faults } };
 }
 
 impl<'a, R: rt::Files> HostFiles<'a, R> {
@@ -81,7 +86,11 @@ impl<'a, R: rt::Files> HostFiles<'a, R> {
 impl<R: rt::Files> Files for HostFiles<'_, R> {
     ghost seen = { seen_of };
 
-    fn open(&mut self, name: &str) -> Result<(), Failed> {
+    fn open(&mut self, name: &str) -> Result<(), Failed>
+        ensures opens { Opens (seen_of self.old) (seen_of self.new) name.now result }
+        ensures counted { CountsFault self.old.faults self.new.faults result }
+        ensures only_closed { OnErr result (self.new ≡ record self.old { current = None; remaining = None; faults = counted self.old.faults }) }
+    {
         self.file = None;
         match open_file(self.host, name) {
             Ok(file) => {
@@ -98,6 +107,9 @@ impl<R: rt::Files> Files for HostFiles<'_, R> {
         requires current { IsSome self.old.current }
         ensures reads { Reads (seen_of self.old) (seen_of self.new) buffer.new result }
         ensures at_the_last_place { last_place ≤ self.old.place → IsErr result }
+        ensures host { ReadConsumes self.old.remaining self.new.remaining result buffer.new }
+        ensures counted { CountsFault self.old.faults self.new.faults result }
+        ensures unmoved { OnErr result ((self.new.place ≡ self.old.place) × (self.new.current ≡ self.old.current)) }
     {
         if let Some(file) = &mut self.file
             && self.place < LAST_PLACE
@@ -145,6 +157,7 @@ fn open_file<R: rt::Files>(host: &R, name: &str) -> io::Result<R::File> {
 
 fn read_some<F: Read>(file: &mut F, buffer: &mut [u8]) -> io::Result<usize>
     ensures bound { IfOk result (λ n. n ≤ length buffer.new) }
+    ensures bytes { ReadConsumes (F.remaining file.old) (F.remaining file.new) result buffer.new }
 {
     for _ in 0..u64::MAX {
         match file.read(buffer) {

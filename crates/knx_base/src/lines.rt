@@ -2,7 +2,7 @@ ghost use Rattle.std.specs.Prelude.{◌≡◌, ℕ, ◌+◌, ◌<◌, ◌≤◌,
 ghost use Rattle.std.specs.List.{list_all};
 ghost use Rattle.std.specs.Option.{IsSomeAnd};
 ghost use Rattle.std.specs.Str.Lines.{lines, strip_carriage_return};
-ghost use Rattle.knx_base.specs.Lines.{is_blank, is_text, words_of, is_comment, line_of, LinesState};
+ghost use Rattle.knx_base.specs.Lines.{is_blank, is_text, words_of, is_comment, Says, line_of, LinesState};
 
 use crate::Cause;
 use std::marker::Model;
@@ -158,6 +158,7 @@ fn is_text(octet: u8) -> bool
 /// not printable ASCII, space or tab.
 pub fn judge_line(line: &[u8]) -> Result<Option<Words<'_>>, Cause>
     ensures line { result ≡ line_of line.now }
+    ensures says { Says line.now result }
 {
     if line.len() > MOST_OCTETS {
         Err(Cause::Long)

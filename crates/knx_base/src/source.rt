@@ -1,4 +1,4 @@
-ghost use Rattle.std.specs.Prelude.{◌≡◌, ℕ, ◌+◌, ◌-◌, ◌≤◌, List, [], ◌∷◌, length, take, drop, IsTrue, ◌↔◌, IsSome, IfOk, OnOk, MatchOption};
+ghost use Rattle.std.specs.Prelude.{◌≡◌, ℕ, ◌+◌, ◌-◌, ◌≤◌, List, [], ◌∷◌, length, take, drop, IsTrue, ◌↔◌, IsSome, IfOk, OnOk, OnErr, MatchOption};
 ghost use Rattle.knx_base.specs.Faults.{HasCause};
 ghost use Rattle.knx_base.specs.Files.{Seen};
 ghost use Rattle.knx_base.specs.Reading.{GoesOn, WhereTold, TakesOctet, ahead, count_of};
@@ -66,6 +66,7 @@ impl Source {
         ensures goes { OnOk result (GoesOn (F.seen files.old) (F.seen files.new) [] self.new 0) }
         ensures given { OnOk result (WhereTold (F.seen files.old) (λ octets. drop (F.seen files.old).place octets ≡ ahead (F.seen files.new) self.new octets)) }
         ensures end { OnOk result (self.new ≡ [] → WhereTold (F.seen files.old) (λ octets. drop (F.seen files.new).place octets ≡ [])) }
+        ensures failed { OnErr result (self.new ≡ []) }
         ensures cause { HasCause (F.seen files.old).faults (F.seen files.new).faults result }
     {
         let count = files.read(&mut self.store)?;
@@ -80,6 +81,7 @@ impl Source {
         ensures told { (F.seen files.new).told ≡ (F.seen files.old).told }
         ensures goes { IfOk result (λ octet. GoesOn (F.seen files.old) (F.seen files.new) self.old self.new (count_of octet)) }
         ensures given { IfOk result (λ octet. TakesOctet (F.seen files.old) (F.seen files.new) self.old self.new octet) }
+        ensures failed { OnErr result ((self.old ≡ []) × (self.new ≡ [])) }
         ensures cause { HasCause (F.seen files.old).faults (F.seen files.new).faults result }
     {
         if self.is_empty() {

@@ -1,8 +1,8 @@
-ghost use Rattle.std.specs.Prelude.{◌≡◌, ℕ, ◌+◌, ◌≤◌, ◌<◌, ◌↔◌, List, [], ◌∷◌, ◌++◌, length, take, IsTrue, IsSome, IfOk};
+ghost use Rattle.std.specs.Prelude.{◌≡◌, ℕ, ◌+◌, ◌≤◌, ◌<◌, ◌↔◌, ◌≢◌, List, [], ◌∷◌, ◌++◌, length, take, nat_lt, if◌then◌else◌, IsTrue, IsSome, IfOk, OnErr};
 ghost use Rattle.std.specs.Str.Lines.{strip_carriage_return};
 ghost use Rattle.knx_base.specs.Faults.{HasCause};
 ghost use Rattle.knx_base.specs.Files.{Seen};
-ghost use Rattle.knx_base.specs.Reading.{GoesOn, ReadsLine, least_of, by_length, last_of};
+ghost use Rattle.knx_base.specs.Reading.{GoesOn, ReadsLine, least_of};
 
 use crate::lines::MOST_OCTETS;
 use crate::{Failed, Files, Source};
@@ -82,7 +82,7 @@ impl TextLine {
     // The line was ended by a line feed.
     fn end_at_line_feed(&mut self) -> LineRead
         ensures line { self.new ≡ strip_carriage_return self.old }
-        ensures read { result ≡ by_length self.new }
+        ensures read { result ≡ (if nat_lt 1024 (length self.new) then LineRead.Long else LineRead.Whole) }
     {
         if self.len > 0 && self.store[self.len - 1] == b'\r' {
             self.len -= 1;
@@ -92,7 +92,9 @@ impl TextLine {
 
     // The line was ended by the file.
     fn end_at_file_end(&self) -> LineRead
-        ensures read { result ≡ last_of self.now }
+        ensures taken { least_of result ≤ length self.now }
+        ensures end { self.now ≡ [] → result ≡ LineRead.End }
+        ensures line { self.now ≢ [] → result ≡ (if nat_lt 1024 (length self.now) then LineRead.Long else LineRead.Whole) }
     {
         if self.len == 0 {
             LineRead::End
@@ -102,7 +104,8 @@ impl TextLine {
     }
 
     fn by_length(&self) -> LineRead
-        ensures read { result ≡ by_length self.now }
+        ensures taken { least_of result ≡ 1 }
+        ensures read { result ≡ (if nat_lt 1024 (length self.now) then LineRead.Long else LineRead.Whole) }
     {
         if self.len > MOST_OCTETS {
             LineRead::Long
@@ -123,6 +126,7 @@ pub fn read_line<F: Files>(
     ensures told { (F.seen files.new).told ≡ (F.seen files.old).told }
     ensures goes { IfOk result (λ read. GoesOn (F.seen files.old) (F.seen files.new) source.old source.new (least_of read)) }
     ensures line { IfOk result (λ read. ReadsLine (F.seen files.old) (F.seen files.new) source.old source.new line.new read) }
+    ensures failed { OnErr result (source.new ≡ []) }
     ensures cause { HasCause (F.seen files.old).faults (F.seen files.new).faults result }
 {
     line.clear();

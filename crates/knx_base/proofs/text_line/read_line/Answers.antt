@@ -8,7 +8,7 @@ use Rattle.knx_base.proofs.text_line.read_line.Goals as goal
 pub returns-in_default-clause-line : goal.returns-in_default-clause-line
 returns-in_default-clause-line g c =
     let before = c.octets.invariant in
-    reads_to_end (g.F.Files.seen c.args.files.now) (g.F.Files.seen c.next.new.files) c.args.source.now c.next.new.self c.octets.line c.end_at_file_end.result before.none c.end_at_file_end.ensures.read
+    reads_to_end (g.F.Files.seen c.args.files.now) (g.F.Files.seen c.next.new.files) c.args.source.now c.next.new.self c.octets.line c.end_at_file_end.result before.none c.end_at_file_end.ensures.end c.end_at_file_end.ensures.line
     (none_taken (g.F.Files.seen c.args.files.now) (g.F.Files.seen c.octets.files) (g.F.Files.seen c.next.new.files) c.args.source.now c.octets.source c.next.new.self c.octets.line _ c.in_ok-octet.field-0 c.in_default.is before.goes before.given c.in_ok-octet.ensures.given)
 
 pub returns-then-octet-eq10-clause-line : goal.returns-then-octet-eq10-clause-line
