@@ -1,7 +1,7 @@
 -- What a call for the next record does.
-use Rattle.std.specs.Prelude.{◌≡◌, ℕ, ◌⊎◌, Bool, true, false, List, Option, Some, None, Result, Ok, Err}
+use Rattle.std.specs.Prelude.{◌≡◌, ℕ, ◌⊎◌, Bool, true, false, List, Option, Some, None, IsSome, Result, Ok, Err}
 use Rattle.knx_base.specs.Files.{Seen}
-use Rattle.frame_file.specs.Reader.{ReaderState, IsAt, GivesRecord, FindsEnd, Refuses}
+use Rattle.frame_file.specs.Reader.{ReaderState, IsAt, GivesRecord, FindsEnd, Refuses, Leaves}
 use Rattle.frame_file.specs.declared.fault.RecordFault.{RecordFault}
 
 -- the state of the reader, and the fault that is answered from now on
@@ -27,10 +27,12 @@ pub record Ends (seen later : Seen) (old new : RecordsState) : Type 0 where
   pub still_none : new.fault ≡ None
   pub ends : FindsEnd seen later old.reader new.reader
 
--- A fault is answered, and from now on. It was answered before, or the list is refused by it here, or the files failed.
+-- A fault is answered, and from now on. It was answered before and nothing is asked, or the list is refused by it here, or the files failed.
 pub record Fails (seen later : Seen) (old new : RecordsState) (fault : RecordFault) : Type 0 where
   pub kept : new.fault ≡ Some fault
   pub cause : (old.fault ≡ Some fault) ⊎ ((old.fault ≡ None) × Refuses seen later old.reader fault)
+  pub again : IsSome old.fault → (later ≡ seen) × (new.reader ≡ old.reader)
+  pub first : old.fault ≡ None → Leaves seen later old.reader new.reader fault
 
 -- whether there is one more record
 abbrev pub Goes : Seen → Seen → RecordsState → RecordsState → Result Bool RecordFault → Type 0

@@ -55,18 +55,24 @@ abbrev pub Refuses : Seen → Seen → ReaderState → RecordFault → Type 0
 Refuses seen later state ReadFault = Rose seen.faults later.faults
 Refuses seen later state fault = WhereTold seen (λ octets. left seen state octets ≡ refused_by fault)
 
--- the answer to: is there one more record?
-abbrev pub Advances : Seen → Seen → ReaderState → ReaderState → Result Bool RecordFault → Type 0
-Advances seen later old new (Ok true) = GivesRecord seen later old new
-Advances seen later old new (Ok false) = FindsEnd seen later old new
-Advances seen later old new (Err fault) = Refuses seen later old fault
-
--- ---- one line
-
 -- a fault of the text alone
 abbrev pub IsOfText : RecordFault → Type 0
 IsOfText ReadFault = ⊥
 IsOfText fault = Unit {0}
+
+-- What a fault leaves: the files tell the same, no record was given, and unless the files failed the current file was read on, and no other.
+pub record Leaves (seen later : Seen) (old new : ReaderState) (fault : RecordFault) : Type 0 where
+  pub told : later.told ≡ seen.told
+  pub counted : new.given ≡ old.given
+  pub goes : IsOfText fault → GoesOn seen later old.held new.held 1
+
+-- the answer to: is there one more record?
+abbrev pub Advances : Seen → Seen → ReaderState → ReaderState → Result Bool RecordFault → Type 0
+Advances seen later old new (Ok true) = GivesRecord seen later old new
+Advances seen later old new (Ok false) = FindsEnd seen later old new
+Advances seen later old new (Err fault) = Refuses seen later old fault × Leaves seen later old new fault
+
+-- ---- one line
 
 -- a line said one more record, whatever lines follow it
 pub record SaysRecord (old new : ReaderState) (line : List ℕ) : Type 0 where
@@ -80,14 +86,15 @@ pub record SaysNothing (old new : ReaderState) (line : List ℕ) : Type 0 where
   pub list : (rest : List (List ℕ)) → records_from old.lines old.given (line ∷ rest) ≡ records_from new.lines new.given rest
 
 -- a line was refused
-pub record SaysFault (old : ReaderState) (line : List ℕ) (fault : RecordFault) : Type 0 where
+pub record SaysFault (old new : ReaderState) (line : List ℕ) (fault : RecordFault) : Type 0 where
   pub text : IsOfText fault
+  pub counted : new.given ≡ old.given
   pub list : (rest : List (List ℕ)) → records_from old.lines old.given (line ∷ rest) ≡ refused_by fault
 
 abbrev pub TakesLine : ReaderState → ReaderState → List ℕ → Result Bool RecordFault → Type 0
 TakesLine old new line (Ok true) = SaysRecord old new line
 TakesLine old new line (Ok false) = SaysNothing old new line
-TakesLine old new line (Err fault) = SaysFault old line fault
+TakesLine old new line (Err fault) = SaysFault old new line fault
 
 -- ---- one step: a record, a line without one, or the end
 
@@ -95,4 +102,4 @@ abbrev pub Steps : Seen → Seen → ReaderState → ReaderState → Result Step
 Steps seen later old new (Ok Given) = GivesRecord seen later old new
 Steps seen later old new (Ok Skipped) = SkipsLine seen later old new
 Steps seen later old new (Ok End) = FindsEnd seen later old new
-Steps seen later old new (Err fault) = Refuses seen later old fault
+Steps seen later old new (Err fault) = Refuses seen later old fault × Leaves seen later old new fault
