@@ -7,9 +7,10 @@ use Rattle.keyring_reader.specs.declared.fault.KeyringFault.{KeyringFault}
 use Rattle.keyring_reader.specs.declared.fault.KeyringFault.TheVariants as fault
 use Rattle.keyring_reader.specs.declared.keys.Wrapping.{Wrapping}
 use Rattle.keyring_reader.specs.declared.kind.Kind.{Kind}
-use Rattle.keyring_reader.specs.Kinds.{kind_in}
-use Rattle.keyring_reader.specs.Contents.{◌>>=◌, Element, Contents, innermost, elements_in, with_element, contents_from}
+use Rattle.keyring_reader.specs.Walk.{kind_in, innermost}
+use Rattle.keyring_reader.specs.Contents.{◌>>=◌, Element, Contents, with_element, contents_from}
 use Rattle.keyring_reader.specs.Keyring.{IsFault}
+use Rattle.keyring_reader.proofs.KindLemmas.{elements_within}
 
 -- a fault is that of what follows too
 pub first_fault : {A B : Type 0} (why : KeyringFault) (found : Result A KeyringFault) (next : A → Result B KeyringFault) → IsFault why found → IsFault why (found >>= next)
@@ -27,7 +28,7 @@ first_fault (fault.Twice place) found next is = ap (λ r. r >>= next) is
 pub start_refused : (under : Wrapping) (now : Contents) (opened : List Kind) (tags : List Tag) (i : ℕ) (item : Tag) (name : List ℕ) (attributes : List (List ℕ × List ℕ))
     (place : ℕ) (kind : Kind) (why : KeyringFault) (all : Result Contents KeyringFault)
     → i < length tags → item ≡ get_or tags i item → item ≡ Start name attributes place → kind ≡ kind_in (innermost opened) name attributes
-    → contents_from under now (elements_in opened (drop i tags)) ≡ all
+    → contents_from under now (elements_within opened (drop i tags)) ≡ all
     → IsFault why (with_element under now (record { kind = kind; attributes = attributes; place = place })) → IsFault why all
 start_refused under now opened tags i item name attributes place kind why all within at is kind_is so_far refused =
     let rest : List Tag = drop (i + 1) tags in
@@ -38,5 +39,5 @@ start_refused under now opened tags i item name attributes place kind why all wi
     let refused_own : IsFault why (with_element under now element) =
     subst (λ (k : Kind). IsFault why (with_element under now (record { kind = k; attributes = attributes; place = place }))) kind_is refused in
     subst (λ (found : Result Contents KeyringFault). IsFault why found)
-    (sym (ap (λ (left : List Tag). contents_from under now (elements_in opened left)) next) ∙ so_far)
-    (first_fault why (with_element under now element) (λ then. contents_from under then (elements_in (own ∷ opened) rest)) refused_own)
+    (sym (ap (λ (left : List Tag). contents_from under now (elements_within opened left)) next) ∙ so_far)
+    (first_fault why (with_element under now element) (λ then. contents_from under then (elements_within (own ∷ opened) rest)) refused_own)

@@ -8,7 +8,9 @@ mod SignedLemmas
 mod SenderLemmas
 mod ListedLemmas
 mod HoldingLemmas
+mod KindLemmas
 mod ContentsLemmas
 mod KeyringLemmas
 mod NoTagLemmas
 mod OrderLemmas
+mod SameLemmas

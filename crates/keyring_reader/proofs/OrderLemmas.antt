@@ -14,7 +14,7 @@ use Rattle.keyring_reader.specs.Roles.{ascending}
 use Rattle.keyring_reader.specs.Signed.{placed, by_name}
 use Rattle.keyring_reader.proofs.ListedLemmas.{or_false}
 
-all_of_one : {K : Type 0} (P : K → Type 0) (order : Ordering) (a b c : List K) → AllByRecursion P a → AllByRecursion P b → AllByRecursion P c
+pub all_of_one : {K : Type 0} (P : K → Type 0) (order : Ordering) (a b c : List K) → AllByRecursion P a → AllByRecursion P b → AllByRecursion P c
     → AllByRecursion P (match_ordering order a b c)
 all_of_one P Less a b c in_a in_b in_c = in_a
 all_of_one P Equal a b c in_a in_b in_c = in_b

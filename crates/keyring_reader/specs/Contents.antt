@@ -25,7 +25,7 @@ use Rattle.keyring_reader.specs.declared.kind.Kind.TheVariants as kind
 use Rattle.keyring_reader.specs.Attributes.{name_of, required}
 use Rattle.keyring_reader.specs.declared.keys.Wrapping.{Wrapping}
 use Rattle.keyring_reader.specs.Keys.{key_named}
-use Rattle.keyring_reader.specs.Kinds.{device_named, group_named, kind_in}
+use Rattle.keyring_reader.specs.Kinds.{Named, device_named, group_named, kind_at}
 
 -- what follows where this is right
 infixl 10 ◌>>=◌
@@ -121,22 +121,19 @@ pub record Element : Type 0 where
   pub attributes : List (List ℕ × List ℕ)
   pub place : ℕ
 
-abbrev pub innermost : List Kind → Option Kind
-innermost [] = None
-innermost (kind ∷ opened) = Some kind
-
-abbrev pub outside : List Kind → List Kind
+-- the elements around the first of these
+abbrev pub outside : {A : Type 0} → List A → List A
 outside [] = []
-outside (kind ∷ opened) = opened
+outside (element ∷ outer) = outer
 
--- the elements that tags begin, in order, where these are open, the innermost first
-abbrev pub elements_in : List Kind → List Tag → List Element
-elements_in opened [] = []
-elements_in opened (Start name attributes place ∷ tags) =
-    let kind = kind_in (innermost opened) name attributes in
-    record { kind = kind; attributes = attributes; place = place } ∷ elements_in (kind ∷ opened) tags
-elements_in opened (End place ∷ tags) = elements_in (outside opened) tags
-elements_in opened (Finish ∷ tags) = elements_in opened tags
+-- the elements that tags begin, in order, inside of these
+abbrev pub elements_in : List Named → List Tag → List Element
+elements_in outer [] = []
+elements_in outer (Start name attributes place ∷ tags) =
+    let opened = record { name = name; attributes = attributes } ∷ outer in
+    record { kind = kind_at opened; attributes = attributes; place = place } ∷ elements_in opened tags
+elements_in outer (End place ∷ tags) = elements_in (outside outer) tags
+elements_in outer (Finish ∷ tags) = elements_in outer tags
 
 -- key rows, and listings, each in the order of the document
 pub record Contents : Type 0 where

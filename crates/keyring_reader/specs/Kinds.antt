@@ -1,5 +1,5 @@
--- What an element of a keyring is: by its name, and by what the element is that it stands in.
-use Rattle.std.specs.Prelude.{ℕ, ◌==◌, if◌then◌else◌, List, codes, Option, Some, None}
+-- What an element of a keyring is, by the path of names from the root to it.
+use Rattle.std.specs.Prelude.{ℕ, ◌==◌, ◌&&◌, if◌then◌else◌, Bool, true, false, List, [], ◌∷◌, codes, reverse, Option, Some, None}
 use Rattle.std.specs.Option.{option_map, option_and_then}
 use Rattle.std.specs.Str.{bytes_eq}
 use Rattle.knx_base.specs.declared.address.GroupAddr.{GroupAddr}
@@ -25,24 +25,38 @@ group_named text = option_and_then group_at (group_of text)
 abbrev pub own_address : List (List ℕ × List ℕ) → Option IndAddr
 own_address attributes = option_and_then device_named (value_named attributes (name_of IndividualAddress))
 
-abbrev pub root_kind : List ℕ → Kind
-root_kind name = if bytes_eq name (codes "Keyring") then kind.Keyring else kind.Other
+pub record Named : Type 0 where
+  pub name : List ℕ
+  pub attributes : List (List ℕ × List ℕ)
 
-abbrev pub section_kind : List ℕ → List (List ℕ × List ℕ) → Kind
-section_kind name attributes =
-    if bytes_eq name (codes "Interface") then kind.Interface (own_address attributes)
-    else if bytes_eq name (codes "GroupAddresses") then kind.GroupAddresses
-    else if bytes_eq name (codes "Devices") then kind.Devices
+-- the elements have these names
+abbrev pub are_named : List Named → List (List ℕ) → Bool
+are_named [] [] = true
+are_named [] (name ∷ names) = false
+are_named (element ∷ outer) [] = false
+are_named (element ∷ outer) (name ∷ names) = are_named outer names && bytes_eq element.name name
+
+-- this path of names leads from the root to the first of the elements, each of which stands in the one that follows
+abbrev pub stands_at : List Named → List (List ℕ) → Bool
+stands_at elements path = are_named elements (reverse path)
+
+abbrev pub address_of : List Named → Option IndAddr
+address_of [] = None
+address_of (element ∷ outer) = own_address element.attributes
+
+-- the address of the element that the first stands in
+abbrev pub outer_address : List Named → Option IndAddr
+outer_address [] = None
+outer_address (element ∷ outer) = address_of outer
+
+-- the kind of the first of the elements
+abbrev pub kind_at : List Named → Kind
+kind_at elements =
+    if stands_at elements (codes "Keyring" ∷ []) then kind.Keyring
+    else if stands_at elements (codes "Keyring" ∷ codes "Interface" ∷ []) then kind.Interface (address_of elements)
+    else if stands_at elements (codes "Keyring" ∷ codes "GroupAddresses" ∷ []) then kind.GroupAddresses
+    else if stands_at elements (codes "Keyring" ∷ codes "Devices" ∷ []) then kind.Devices
+    else if stands_at elements (codes "Keyring" ∷ codes "Interface" ∷ codes "Group" ∷ []) then kind.Listing (outer_address elements)
+    else if stands_at elements (codes "Keyring" ∷ codes "GroupAddresses" ∷ codes "Group" ∷ []) then kind.GroupKey
+    else if stands_at elements (codes "Keyring" ∷ codes "Devices" ∷ codes "Device" ∷ []) then kind.Device
     else kind.Other
-
-abbrev pub where_named : List ℕ → List ℕ → Kind → Kind
-where_named name wanted found = if bytes_eq name wanted then found else kind.Other
-
--- None stands for the document
-abbrev pub kind_in : Option Kind → List ℕ → List (List ℕ × List ℕ) → Kind
-kind_in None name attributes = root_kind name
-kind_in (Some kind.Keyring) name attributes = section_kind name attributes
-kind_in (Some (kind.Interface own)) name attributes = where_named name (codes "Group") (kind.Listing own)
-kind_in (Some kind.GroupAddresses) name attributes = where_named name (codes "Group") kind.GroupKey
-kind_in (Some kind.Devices) name attributes = where_named name (codes "Device") kind.Device
-kind_in (Some _) name attributes = kind.Other

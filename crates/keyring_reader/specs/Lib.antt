@@ -4,6 +4,7 @@ pub mod Keys
 pub mod Texts
 pub mod Signed
 pub mod Kinds
+pub mod Walk
 pub mod Contents
 pub mod Roles
 pub mod Keyring

@@ -1,6 +1,6 @@
 ghost use Rattle.std.specs.Prelude.{◌≡◌, ◌==◌, ℕ, List, Some, map};
-ghost use Rattle.std.specs.List.{list_any};
-ghost use Rattle.std.specs.List.Sorted.{IsStrictlySortedBy};
+ghost use Rattle.std.specs.List.{list_any, filter};
+ghost use Rattle.std.specs.List.Sorted.{IsStrictlySortedBy, IsPermutation};
 ghost use Rattle.std.specs.Ordering.{nat_cmp};
 ghost use Rattle.std.specs.Cmp.Lexicographic.{slice_cmp};
 ghost use Rattle.aes_modes.specs.Cipher.{IsBlock};
@@ -10,16 +10,19 @@ ghost use Rattle.knx_base.specs.declared.address.IndAddr.{IndAddr};
 ghost use Rattle.keyring_reader.specs.Holding.{by_group, by_device};
 ghost use Rattle.keyring_reader.specs.Keys.{base64_of, stored_block, unwrapped};
 ghost use Rattle.keyring_reader.specs.Roles.{ascending};
-ghost use Rattle.keyring_reader.specs.Signed.{by_name};
+ghost use Rattle.keyring_reader.specs.Signed.{is_signed, by_name};
+ghost use Rattle.tag_text.specs.Names.{DifferInName};
 
 /// The groups, the devices and the senders that role rows are told of ascend, and are those of the list that is put in order;
-/// the names of the attributes that are signed ascend.
+/// the names of the attributes that are signed ascend, and those are the signed ones of the tag, each once: no tag names an
+/// attribute twice.
 pub fn lists_ascend()
     ensures groups { (groups : List GroupAddr) → IsStrictlySortedBy by_group (ascending (λ group. group.0) groups) }
     ensures same_groups { (groups : List GroupAddr) (n : ℕ) → list_any (λ group. group.0 == n) (ascending (λ group. group.0) groups) ≡ list_any (λ group. group.0 == n) groups }
     ensures devices { (devices : List IndAddr) → IsStrictlySortedBy by_device (ascending (λ device. device.0) devices) }
     ensures same_devices { (devices : List IndAddr) (n : ℕ) → list_any (λ device. device.0 == n) (ascending (λ device. device.0) devices) ≡ list_any (λ device. device.0 == n) devices }
     ensures names { (attributes : List (List ℕ × List ℕ)) → IsStrictlySortedBy (slice_cmp nat_cmp) (map (λ attribute. attribute.0) (by_name attributes)) }
+    ensures same_attributes { (attributes : List (List ℕ × List ℕ)) → DifferInName attributes → IsPermutation (filter is_signed attributes) (by_name (filter is_signed attributes)) }
 {}
 
 /// A text is the base64 of one block at most, and every block has its text; a key that is unwrapped has the wrapped one as its

@@ -17,7 +17,7 @@ use Rattle.tag_text.proofs.DocumentLemmas.{step_less, left_goes, left_stops}
 use Rattle.tag_text.proofs.ScanLemmas.{well_formed, ill_formed}
 
 -- the next step, by whether the document is whole and which piece is there
-step_by : (s : State) (b : Bool) (o : Option (Piece × List ℕ)) → is_whole s ≡ b → piece_at (is_inside s) s.rest ≡ o
+pub step_by : (s : State) (b : Bool) (o : Option (Piece × List ℕ)) → is_whole s ≡ b → piece_at (is_inside s) s.rest ≡ o
     → step s ≡ cond b (Stops None) (option_map_or (λ found. judged s found.0 found.1) o (bad s))
 unfolding step
 step_by s b o whole piece = rw (whole, piece) refl
@@ -37,7 +37,7 @@ whole_test : (s : State) (b : Bool) (found : Piece × List ℕ) → is_whole s �
 whole_test s true found whole piece = absurd (whole_has_none s found whole piece)
 whole_test s false found whole piece = step_by s false (Some found) whole piece
 
-step_is : (s : State) (p : Piece) (rest : List ℕ) → IsPiece (is_inside s) s.rest rest p → step s ≡ judged s p rest
+pub step_is : (s : State) (p : Piece) (rest : List ℕ) → IsPiece (is_inside s) s.rest rest p → step s ≡ judged s p rest
 step_is s p rest piece = whole_test s (is_whole s) (p, rest) refl (piece_is (is_inside s) s.rest rest p piece)
 
 no_piece_case : (s : State) (o : Option (Piece × List ℕ)) → is_whole s ≡ false → piece_at (is_inside s) s.rest ≡ o
@@ -133,7 +133,7 @@ longer_test octets v m true is ill most above utf8 = most.longest m above (leb-t
 longer_test octets v m false is ill most above utf8 = not_utf8 octets m ill (omega (arith, leb-false m (length octets) is)) utf8
 
 -- a text that is not UTF-8 has a longest front that is
-is_valid_up_to : (octets : List ℕ) → is_utf8 octets ≡ false → IsValidUpTo octets (utf8_valid_len octets)
+pub is_valid_up_to : (octets : List ℕ) → is_utf8 octets ≡ false → IsValidUpTo octets (utf8_valid_len octets)
 unfolding utf8_valid_len
 is_valid_up_to octets ill =
     let v : ℕ = valid_len_up_to octets (length octets) in

@@ -7,3 +7,5 @@ mod DocumentLemmas
 mod ScanLemmas
 mod GrammarLemmas
 mod LawLemmas
+mod ElementLemmas
+mod NameLemmas

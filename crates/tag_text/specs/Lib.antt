@@ -7,3 +7,5 @@ pub mod Scan
 pub mod Attributes
 pub mod Reader
 pub mod Grammar
+pub mod Elements
+pub mod Names

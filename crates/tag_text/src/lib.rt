@@ -16,7 +16,7 @@ mod tests;
 mod text;
 mod value;
 
-pub use law::one_outcome;
+pub use law::{names_once, one_element, one_outcome};
 pub use reader::TagReader;
 pub use tag::{Tag, TagFault};
 pub use text::{Attributes, Text};

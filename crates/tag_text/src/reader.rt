@@ -26,9 +26,10 @@ impl<'a> Model for TagReader<'a> {
 }
 
 impl<'a> TagReader<'a> {
-    ghost use Rattle.std.specs.Prelude.{◌≡◌};
+    ghost use Rattle.std.specs.Prelude.{◌≡◌, IfOk};
     ghost use Rattle.tag_text.specs.Document.{outcome_of};
     ghost use Rattle.tag_text.specs.Grammar.{IsDocument};
+    ghost use Rattle.tag_text.specs.Names.{NamesOnce};
     ghost use Rattle.tag_text.specs.Reader.{Gives};
 
     /// A reader before the first tag of the document with these octets.
@@ -54,6 +55,7 @@ impl<'a> TagReader<'a> {
     /// Finish it answers Finish again.
     pub fn next(&mut self, alloc: Global) -> Result<Tag, TagFault>
         ensures tag { Gives self.old self.new result }
+        ensures names { IfOk result NamesOnce }
     {
         if let Some(place) = self.ill_formed {
             return Err(TagFault::Utf8(place));
