@@ -7,7 +7,7 @@ use Rattle.std.proofs.lemmas.Bool.{cases_lt, cases_eq}
 use lib.Bits.{xor_zero_l, xor_comm}
 use Rattle.aes_modes.specs.Octet.{◌⊕◌}
 use Rattle.aes_modes.specs.Cipher.{AreOctets, IsBlock, xor_blocks, last_round, cipher}
-use Rattle.aes_modes.specs.Modes.{block_at, chained, cbc_of, zero_block, padded, mac_of, MacState, Holds}
+use Rattle.aes_modes.specs.Modes.{block_at, chained, cbc_of, zero_block, padded, mac_of, MacState, WasFed}
 use Rattle.aes_modes.proofs.Squares.{IsBlock_square, xor_blocks-at, length-xor_blocks, xor_blocks_comm, same_blocks}
 
 -- ---- blocks
@@ -149,15 +149,15 @@ block_more b m c n u x lt lb lm e =
     ])
 
 -- one more octet, within a block
-pub Holds_octet : (s : MacState) (k m : List ℕ) (x : ℕ) → Holds s k m → length s.block ≡ 16 → s.used + 1 < 16
-    → Holds (record { key = s.key; block = slice_set s.block s.used (slice_index s.block s.used ⊕ x); used = s.used + 1 }) k (m ++ x ∷ [])
-Holds_octet s k m x h lb lt =
+pub WasFed_octet : (s : MacState) (m : List ℕ) (x : ℕ) → WasFed s m → length s.block ≡ 16 → s.used + 1 < 16
+    → WasFed (record { key = s.key; block = slice_set s.block s.used (slice_index s.block s.used ⊕ x); used = s.used + 1 }) (m ++ x ∷ [])
+WasFed_octet s m x h lb lt =
+    let k = s.key in
     let n = length m / 16 in
     let longer : length (m ++ x ∷ []) ≡ length m + 1 = length-append m (x ∷ []) in
     let used = h.used in
     let next : length (m ++ x ∷ []) / 16 ≡ n = omega arith in
     record {
-      key = h.key;
       used = omega arith;
       block =
           block_more s.block m (chained k zero_block m n) n s.used x (omega arith) lb (omega arith) h.block
@@ -166,20 +166,20 @@ Holds_octet s k m x h lb lt =
     }
 
 -- one more octet, at the end of a block
-pub Holds_last_octet : (s : MacState) (k m : List ℕ) (x : ℕ) → Holds s k m → length s.block ≡ 16 → s.used + 1 ≡ 16
-    → Holds (record { key = s.key; block = cipher s.key (slice_set s.block s.used (slice_index s.block s.used ⊕ x)); used = 0 }) k (m ++ x ∷ [])
-Holds_last_octet s k m x h lb lt =
+pub WasFed_last_octet : (s : MacState) (m : List ℕ) (x : ℕ) → WasFed s m → length s.block ≡ 16 → s.used + 1 ≡ 16
+    → WasFed (record { key = s.key; block = cipher s.key (slice_set s.block s.used (slice_index s.block s.used ⊕ x)); used = 0 }) (m ++ x ∷ [])
+WasFed_last_octet s m x h lb lt =
+    let k = s.key in
     let n = length m / 16 in
     let longer : length (m ++ x ∷ []) ≡ length m + 1 = length-append m (x ∷ []) in
     let used = h.used in
     let next : length (m ++ x ∷ []) / 16 ≡ n + 1 = omega arith in
-    let block : cipher s.key (slice_set s.block s.used (slice_index s.block s.used ⊕ x)) ≡ chained k zero_block (m ++ x ∷ []) (n + 1) =
-    (λ i. cipher (h.key i) (
+    let block : cipher k (slice_set s.block s.used (slice_index s.block s.used ⊕ x)) ≡ chained k zero_block (m ++ x ∷ []) (n + 1) =
+    ap (cipher k)
     (block_more s.block m (chained k zero_block m n) n s.used x (omega arith) lb (omega arith) h.block
-    ∙ ap (xor_blocks (block_at (m ++ x ∷ []) n)) (sym (chained-append k m (x ∷ []) n (omega arith)))) i))
+    ∙ ap (xor_blocks (block_at (m ++ x ∷ []) n)) (sym (chained-append k m (x ∷ []) n (omega arith))))
     ∙ sym (chained_next k zero_block (m ++ x ∷ []) n) in
     record {
-      key = h.key;
       used = omega arith;
       block =
           block
@@ -188,9 +188,10 @@ Holds_last_octet s k m x h lb lt =
     }
 
 -- one more block
-pub Holds_block : (s : MacState) (k m p : List ℕ) → Holds s k m → length p ≡ 16 → s.used ≡ 0
-    → Holds (record { key = s.key; block = cipher s.key (xor_blocks s.block p); used = 0 }) k (m ++ p)
-Holds_block s k m p h lp none =
+pub WasFed_block : (s : MacState) (m p : List ℕ) → WasFed s m → length p ≡ 16 → s.used ≡ 0
+    → WasFed (record { key = s.key; block = cipher s.key (xor_blocks s.block p); used = 0 }) (m ++ p)
+WasFed_block s m p h lp none =
+    let k = s.key in
     let n = length m / 16 in
     let longer : length (m ++ p) ≡ length m + length p = length-append m p in
     let used = h.used in
@@ -200,12 +201,11 @@ Holds_block s k m p h lp none =
     let piece : p ≡ block_at (m ++ p) n =
     same_blocks p (block_at (m ++ p) n) lp (length-block_at (m ++ p) n)
     (λ i lt. sym (block_at-at (m ++ p) n i lt ∙ get_or-append_right m p (length m) (16 * n + i) 0 refl (omega arith) ∙ ap (slice_index p) (let e : 16 * n + i - length m ≡ i = omega arith in e))) in
-    let block : cipher s.key (xor_blocks s.block p) ≡ chained k zero_block (m ++ p) (n + 1) =
-    (λ i. cipher (h.key i) (xor_blocks (last i) (piece i)))
+    let block : cipher k (xor_blocks s.block p) ≡ chained k zero_block (m ++ p) (n + 1) =
+    (λ i. cipher k (xor_blocks (last i) (piece i)))
     ∙ ap (cipher k) (xor_blocks_comm (chained k zero_block (m ++ p) n) (block_at (m ++ p) n))
     ∙ sym (chained_next k zero_block (m ++ p) n) in
     record {
-      key = h.key;
       used = omega arith;
       block =
           block
@@ -214,15 +214,17 @@ Holds_block s k m p h lp none =
     }
 
 -- the end within a block
-pub Holds-mac_within : (s : MacState) (k m : List ℕ) → Holds s k m → 0 < s.used → cipher s.key s.block ≡ mac_of k m
-Holds-mac_within s k m h some =
+pub WasFed-mac_within : (s : MacState) (m : List ℕ) → WasFed s m → 0 < s.used → cipher s.key s.block ≡ mac_of s.key m
+WasFed-mac_within s m h some =
+    let k = s.key in
     let n = length m / 16 in
     let used = h.used in
-    (λ i. cipher (h.key i) (h.block i)) ∙ sym (chained_next k zero_block m n) ∙ sym (mac_of-chained k m (n + 1) (omega arith))
+    ap (cipher k) h.block ∙ sym (chained_next k zero_block m n) ∙ sym (mac_of-chained k m (n + 1) (omega arith))
 
 -- the end between blocks
-pub Holds-mac_between : (s : MacState) (k m : List ℕ) → Holds s k m → s.used ≡ 0 → s.block ≡ mac_of k m
-Holds-mac_between s k m h none =
+pub WasFed-mac_between : (s : MacState) (m : List ℕ) → WasFed s m → s.used ≡ 0 → s.block ≡ mac_of s.key m
+WasFed-mac_between s m h none =
+    let k = s.key in
     let n = length m / 16 in
     let used = h.used in
     h.block ∙ between_blocks k m n (omega arith) ∙ sym (mac_of-chained k m n (omega arith))

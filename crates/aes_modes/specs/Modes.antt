@@ -49,9 +49,8 @@ pub record MacState : Type 0 where
   pub block : List ℕ
   pub used : ℕ
 
--- the state of a CBC-MAC under the key k that was fed the octets m: its block is the XOR of the octets
--- after the last whole block and of the last cipher block
-pub record Holds (s : MacState) (k m : List ℕ) : Type 0 where
-  pub key : s.key ≡ k
-  pub used : s.used ≡ length m % 16
-  pub block : s.block ≡ xor_blocks (block_at m (length m / 16)) (chained k zero_block m (length m / 16))
+-- These octets were fed to it, one after the other, under its key: its block is the XOR of the octets
+-- after the last whole block and of the last cipher block.
+pub record WasFed (mac : MacState) (fed : List ℕ) : Type 0 where
+  pub used : mac.used ≡ length fed % 16
+  pub block : mac.block ≡ xor_blocks (block_at fed (length fed / 16)) (chained mac.key zero_block fed (length fed / 16))

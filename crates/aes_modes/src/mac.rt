@@ -2,14 +2,14 @@
 
 ghost use Rattle.std.specs.Prelude.{◌≡◌, List, [], ◌∷◌, ◌++◌, ℕ, ◌+◌, ◌%◌, ◌<◌, length};
 ghost use Rattle.std.specs.List.{flat_map};
-ghost use Rattle.aes_modes.specs.Modes.{Holds, mac_of, zero_block};
+ghost use Rattle.aes_modes.specs.Modes.{WasFed, mac_of, zero_block};
 
 use crate::blocks::{BLOCK_LEN, block_at, xor_block};
 use crate::key::Key128;
 use std::marker::Model;
 
-/// A CBC-MAC that is fed piece by piece. `Holds` ties it to its key and to the octets that it was
-/// fed.
+/// A CBC-MAC under a key, which is fed piece by piece. It keeps no octets of whole blocks, so what it
+/// was fed is no function of it: contracts say of it what `WasFed` says.
 #[derive(Drop)]
 pub struct CbcMac {
     key: Key128,
@@ -30,9 +30,10 @@ impl Model for CbcMac {
 }
 
 impl CbcMac {
-    /// The CBC-MAC of no octets yet.
+    /// The CBC-MAC under this key, fed nothing yet.
     pub fn new(key: Key128) -> CbcMac
-        ensures { Holds result key [] }
+        ensures key { result.key ≡ key }
+        ensures nothing_fed { WasFed result [] }
     {
         CbcMac {
             key,
@@ -41,9 +42,10 @@ impl CbcMac {
         }
     }
 
-    /// Adds `bytes` to the octets.
+    /// Feeds it these octets, after those that it was fed before.
     pub fn feed(&mut self, bytes: &[u8])
-        ensures { (key fed : List ℕ) → Holds self.old key fed → Holds self.new key (fed ++ bytes.now) }
+        ensures key { self.new.key ≡ self.old.key }
+        ensures fed { (fed : List ℕ) → WasFed self.old fed → WasFed self.new (fed ++ bytes.now) }
     {
         let head = ((BLOCK_LEN - self.used) % BLOCK_LEN).min(bytes.len());
         let whole = (bytes.len() - head) / BLOCK_LEN;
@@ -53,8 +55,9 @@ impl CbcMac {
     }
 
     fn feed_octets(&mut self, bytes: &[u8])
+        ensures key { self.new.key ≡ self.old.key }
         ensures used { self.new.used % 16 ≡ (self.old.used + length bytes.now) % 16 }
-        ensures octets { (key fed : List ℕ) → Holds self.old key fed → Holds self.new key (fed ++ bytes.now) }
+        ensures fed { (fed : List ℕ) → WasFed self.old fed → WasFed self.new (fed ++ bytes.now) }
     {
         'octets: for octet in bytes {
             self.feed_octet(*octet);
@@ -64,7 +67,8 @@ impl CbcMac {
     fn feed_blocks(&mut self, blocks: &[u8])
         requires whole { length blocks.now % 16 ≡ 0 }
         requires between { 0 < length blocks.now → self.old.used % 16 ≡ 0 }
-        ensures { (key fed : List ℕ) → Holds self.old key fed → Holds self.new key (fed ++ blocks.now) }
+        ensures key { self.new.key ≡ self.old.key }
+        ensures fed { (fed : List ℕ) → WasFed self.old fed → WasFed self.new (fed ++ blocks.now) }
     {
         'each: for n in 0..blocks.len() / BLOCK_LEN {
             self.feed_block(&block_at(blocks, n));
@@ -73,16 +77,18 @@ impl CbcMac {
 
     fn feed_block(&mut self, block: &[u8; 16])
         requires { self.old.used % 16 ≡ 0 }
+        ensures key { self.new.key ≡ self.old.key }
         ensures used { self.new.used % 16 ≡ 0 }
-        ensures block { (key fed : List ℕ) → Holds self.old key fed → Holds self.new key (fed ++ block.now) }
+        ensures fed { (fed : List ℕ) → WasFed self.old fed → WasFed self.new (fed ++ block.now) }
     {
         xor_block(&mut self.block, block);
         self.key.encrypt_block(&mut self.block);
     }
 
     fn feed_octet(&mut self, octet: u8)
+        ensures key { self.new.key ≡ self.old.key }
         ensures used { self.new.used % 16 ≡ (self.old.used + 1) % 16 }
-        ensures octet { (key fed : List ℕ) → Holds self.old key fed → Holds self.new key (fed ++ octet ∷ []) }
+        ensures fed { (fed : List ℕ) → WasFed self.old fed → WasFed self.new (fed ++ octet ∷ []) }
     {
         self.block[self.used] ^= octet;
         self.used += 1;
@@ -95,8 +101,8 @@ impl CbcMac {
     /// The last block of CBC from sixteen zeros over all that was fed, filled with zeros to whole
     /// blocks. Where nothing was fed it is sixteen zeros.
     pub fn finish(self) -> [u8; 16]
-        ensures mac { (key fed : List ℕ) → Holds self key fed → result ≡ mac_of key fed }
-        ensures nothing_fed { (key : List ℕ) → Holds self key [] → result ≡ zero_block }
+        ensures mac { (fed : List ℕ) → WasFed self fed → result ≡ mac_of self.key fed }
+        ensures nothing_fed { WasFed self [] → result ≡ zero_block }
     {
         let mut block = self.block;
         if self.used > 0 {

@@ -11,17 +11,17 @@ use Rattle.aes_modes.proofs.Chaining.{length-mac_of}
 use Rattle.knx_ccm.specs.declared.head.Head.{Head}
 use Rattle.knx_ccm.specs.Sealing.{two_octets, is_confidential, block_0, counter_0, encrypted_length, readable_length, code_of, ciphered, wired, sealed, Opens, line_of, said_apdu, opened}
 
--- a code by the pieces that are fed
-pub code_from : (key : List ℕ) (head : Head) (apdu first second whole code : List ℕ) (encrypted readable : ℕ)
-    → encrypted ≡ encrypted_length head apdu → readable ≡ readable_length head apdu
+-- a code by the pieces that are fed, under the key that the MAC has
+pub code_from : (key mac_key : List ℕ) (head : Head) (apdu first second whole code : List ℕ) (encrypted readable : ℕ)
+    → mac_key ≡ key → encrypted ≡ encrypted_length head apdu → readable ≡ readable_length head apdu
     → first ≡ block_0 head encrypted → second ≡ two_octets readable
-    → whole ≡ mac_of key (((first ++ second) ++ head.field ∷ []) ++ apdu) → code ≡ take 4 whole → code ≡ code_of key head apdu
+    → whole ≡ mac_of mac_key (((first ++ second) ++ head.field ∷ []) ++ apdu) → code ≡ take 4 whole → code ≡ code_of key head apdu
 unfolding code_of
-code_from key head apdu first second whole code encrypted readable is_encrypted is_readable is_first is_second is_whole is_code =
+code_from key mac_key head apdu first second whole code encrypted readable is_key is_encrypted is_readable is_first is_second is_whole is_code =
     let begin : first ≡ block_0 head (encrypted_length head apdu) = is_first ∙ ap (λ (n : ℕ). block_0 head n) is_encrypted in
     let middle : second ≡ two_octets (readable_length head apdu) = is_second ∙ ap two_octets is_readable in
-    is_code ∙ ap (take 4) (is_whole ∙ ap (mac_of key) (append_assoc (first ++ second) (head.field ∷ []) apdu
-    ∙ (λ i. (begin i ++ middle i) ++ head.field ∷ apdu)))
+    is_code ∙ ap (take 4) (is_whole ∙ ap (mac_of mac_key) (append_assoc (first ++ second) (head.field ∷ []) apdu)
+    ∙ (λ i. mac_of (is_key i) ((begin i ++ middle i) ++ head.field ∷ apdu)))
 
 -- a list of four octets and more is its front and the rest
 front_and_rest : (line : List ℕ) → take 4 line ++ drop 4 line ≡ line

@@ -1,6 +1,6 @@
 -- What calls of a memory do, for one call and for a list of writes in turn.
 use Rattle.std.specs.Prelude.{◌≡◌, ◌⊎◌, ℕ, ◌+◌, ◌≤◌, Bool, true, false, List, length, Option, Some, None, IsSome, Result, Ok, Err}
-use Rattle.knx_base.specs.Faults.{Rose}
+use Rattle.knx_base.specs.Faults.{counted, Rose}
 use Rattle.nvm_model.specs.Write.{Write, written, Reached, PartWritten}
 use Rattle.nvm_model.specs.Plan.{Struck, strike}
 use Rattle.nvm_model.specs.declared.fault.NvmFault.{NvmFault}
@@ -21,6 +21,17 @@ pub record State : Type 0 where
 abbrev pub fault_of : {T : Type 0} → Result T NvmFault → Option NvmFault
 fault_of (Ok _) = None
 fault_of (Err fault) = Some fault
+
+-- a count of the calls that failed, or were cut, after one more call; it stands still at its type's last value
+abbrev pub faults_after : Option NvmFault → ℕ → ℕ
+faults_after (Some Failed) n = counted n
+faults_after (Some Cut) n = n
+faults_after None n = n
+
+abbrev pub cuts_after : Option NvmFault → ℕ → ℕ
+cuts_after (Some Cut) n = counted n
+cuts_after (Some Failed) n = n
+cuts_after None n = n
 
 -- whether an answer leaves power on
 abbrev pub is_on_after : Option NvmFault → Bool

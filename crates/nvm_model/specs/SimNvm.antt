@@ -1,9 +1,8 @@
 -- The simulated memory.
-use Rattle.std.specs.Prelude.{◌≡◌, ℕ, true, false, List, Option, Some, None}
+use Rattle.std.specs.Prelude.{◌≡◌, ℕ, true, false, List, Option, Some}
 use Rattle.knx_base.specs.Faults.{counted}
-use Rattle.nvm_model.specs.Nvm.{State}
+use Rattle.nvm_model.specs.Nvm.{State, faults_after, cuts_after}
 use Rattle.nvm_model.specs.declared.fault.NvmFault.{NvmFault}
-use Rattle.nvm_model.specs.declared.fault.NvmFault.TheVariants.{Failed, Cut}
 use Rattle.nvm_model.specs.declared.plan.Plan.{Plan}
 use Rattle.nvm_model.specs.declared.sim.SimNvm.{SimNvm}
 
@@ -28,17 +27,6 @@ with_cut write torn plan = record plan { cut = Some (record { writes = write; to
 
 abbrev pub with_fault : ℕ → ℕ → Plan → Plan
 with_fault write torn plan = record plan { fault = Some (record { writes = write; torn = torn }) }
-
--- a count of faults, or of cuts, after an answer
-abbrev pub faults_after : Option NvmFault → ℕ → ℕ
-faults_after (Some Failed) n = counted n
-faults_after (Some Cut) n = n
-faults_after None n = n
-
-abbrev pub cuts_after : Option NvmFault → ℕ → ℕ
-cuts_after (Some Cut) n = counted n
-cuts_after (Some Failed) n = n
-cuts_after None n = n
 
 -- A write with power on is counted by what it answers; without power nothing changes.
 pub record CountsWrite (answer : Option NvmFault) (old new : State) : Type 0 where

@@ -1,4 +1,4 @@
-ghost use Rattle.std.specs.Prelude.{◌≡◌, ◌+◌, ◌<◌, ◌≤◌, [], ◌∷◌, true, false, Some, None, OnOk, IfOk, option_map, length, replicate, slice_range, refl};
+ghost use Rattle.std.specs.Prelude.{◌≡◌, ◌+◌, ◌<◌, ◌≤◌, [], ◌∷◌, true, false, Some, None, OnOk, OnErr, IfOk, option_map, length, replicate, slice_range, refl};
 ghost use Rattle.std.proofs.Common.{ap, arith};
 ghost use Rattle.nvm_model.specs.Plan.{due, lessened, unarmed};
 ghost use Rattle.nvm_model.specs.SimNvm.{sim_state, sim_images, with_cut, with_fault, CountsWrite};
@@ -140,6 +140,7 @@ impl Nvm for SimNvm {
         ensures octets { OnOk result (out.new ≡ slice_range (sim_state self.old).octets at (at + length out.old)) }
         ensures reads { Reads (fault_of result) (sim_state self.old) (sim_state self.new) (sim_images self.old) (sim_images self.new) }
         ensures same { sim_state self.new ≡ sim_state self.old }
+        ensures untouched { OnErr result (out.new ≡ out.old) }
     {
         if self.powered {
             out.copy_from_slice(&self.octets[at..at + out.len()]);

@@ -1,9 +1,10 @@
 //! A second memory, for trying code that is generic in [`Nvm`] with one that tells less than `SimNvm` does.
 ghost use Rattle.std.specs.Prelude.{◌≡◌, ◌⊎◌, ℕ, List, ◌+◌, ◌-◌, ◌<◌, ◌≤◌, ◌↔◌, [], ◌∷◌, true, None, IfOk, OnOk, OnErr, IsErr, IsTrue, length, replicate, slice_range, refl};
 ghost use Rattle.std.proofs.Common.{arith, inl};
+ghost use Rattle.knx_base.specs.Faults.{counted};
 ghost use Rattle.nvm_model.specs.FailingNvm.{failing_state, failing_call, failing_torn, failing_images, CountsCall};
 ghost use Rattle.nvm_model.specs.LastWrite.{only_last, size_last};
-ghost use Rattle.nvm_model.specs.Nvm.{Makes, Reads, fault_of};
+ghost use Rattle.nvm_model.specs.Nvm.{Makes, Reads, fault_of, faults_after};
 ghost use Rattle.nvm_model.specs.Plan.{torn_to};
 ghost use Rattle.nvm_model.specs.Write.{put, Torn};
 
@@ -12,7 +13,7 @@ use knx_base::NoMemory;
 use std::alloc::Global;
 
 /// A memory that tells no plan and fails at one chosen call. A cut may fall inside each of its writes, also one that it
-/// answered Ok, so it has many images.
+/// answered Ok, so it has many images. Its clock counts its writes, and its count of faults the calls that failed.
 #[derive(Drop)]
 pub struct FailingNvm {
     octets: Vec<u8>,
@@ -92,7 +93,9 @@ impl Nvm for FailingNvm {
         ensures reads { Reads (fault_of result)
             (failing_state self.old) (failing_state self.new) (failing_images self.old) (failing_images self.new) }
         ensures fails { IsErr result ↔ (failing_call self.old ≡ 1) }
+        ensures untouched { OnErr result (out.new ≡ out.old) }
         ensures counts { CountsCall self.old self.new }
+        ensures faults { (failing_state self.new).faults ≡ faults_after (fault_of result) (failing_state self.old).faults }
     {
         if self.is_struck() {
             self.faults = self.faults.saturating_add(1);
@@ -115,6 +118,8 @@ impl Nvm for FailingNvm {
         ensures torn { OnErr result ((failing_state self.new).octets
             ≡ put (torn_to (failing_torn self.old) (record { at = at; bytes = bytes.now })) (failing_state self.old).octets) }
         ensures counts { CountsCall self.old self.new }
+        ensures counts_write { (failing_state self.new).clock ≡ counted (failing_state self.old).clock }
+        ensures faults { (failing_state self.new).faults ≡ faults_after (fault_of result) (failing_state self.old).faults }
     {
         let struck = self.is_struck();
         self.clock = self.clock.saturating_add(1);

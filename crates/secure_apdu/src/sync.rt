@@ -1,13 +1,14 @@
 ghost use Rattle.std.specs.Prelude.{◌≡◌, ◌++◌};
-ghost use Rattle.knx_base.specs.Number.{octets_of, number_of, number_at};
-ghost use Rattle.secure_apdu.specs.Sync.{xor_octets};
+ghost use Rattle.knx_base.specs.Number.{octets_of, number_at};
+ghost use Rattle.secure_apdu.specs.Sync.{xor_number, xor_octets};
 
 use knx_base::Number48;
 
 /// The number whose octets are those of the number XOR the challenge. Twice with one challenge gives the number back.
 pub fn xor_number(challenge: [u8; 6], number: Number48) -> Number48
     ensures octets { octets_of result ≡ xor_octets challenge (octets_of number) }
-    ensures value { result ≡ number_of (xor_octets challenge (octets_of number)) }
+    ensures value { result ≡ xor_number challenge number }
+    ensures twice { xor_number challenge result ≡ number }
     ensures back { xor_octets challenge (octets_of result) ≡ octets_of number }
 {
     let [c0, c1, c2, c3, c4, c5] = challenge;

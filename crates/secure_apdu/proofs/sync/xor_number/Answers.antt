@@ -17,3 +17,6 @@ pub returns-clause-back : goal.returns-clause-back
 returns-clause-back c = let six : length c.args.challenge ≡ 6 = search rules in
     ap (xor_octets c.args.challenge) (returns-clause-octets c)
     ∙ xor_octets-twice c.args.challenge _ (six ∙ sym (length-octets_of c.args.number))
+
+pub returns-clause-twice : goal.returns-clause-twice
+returns-clause-twice c = ap number_of (returns-clause-back c) ∙ sym (ap number_of c.to_bytes.ensures.octets) ∙ c.to_bytes.ensures.back

@@ -1,10 +1,11 @@
-use Rattle.std.proofs.Common.{List, ℕ, subst, sym, arith}
+use Rattle.std.proofs.Common.{List, ℕ, refl, subst, sym, arith}
 use Rattle.std.proofs.lemmas.List.{append-nil}
-use Rattle.aes_modes.specs.Modes.{Holds}
+use Rattle.aes_modes.specs.Modes.{WasFed}
 use Rattle.aes_modes.proofs.mac.CbcMac.feed_octets.Goals as goal
 
 pub octets-init : goal.octets-init
 octets-init c = record {
+  key = refl;
   used = omega arith;
-  octets = λ key fed h. subst (λ (l : List ℕ). Holds c.args.self.now key l) (sym (append-nil fed)) h;
+  fed = λ fed h. subst (λ (l : List ℕ). WasFed c.args.self.now l) (sym (append-nil fed)) h;
 }

@@ -3,6 +3,6 @@ use Rattle.aes_modes.specs.Cipher.{xor_blocks}
 use Rattle.aes_modes.specs.Modes.{block_at, chained}
 use Rattle.aes_modes.proofs.mac.CbcMac.new.Goals as goal
 
-pub returns : goal.returns
+pub returns-clause-nothing_fed : goal.returns-clause-nothing_fed
 unfolding xor_blocks block_at chained
-returns c = record { key = refl; used = refl; block = refl }
+returns-clause-nothing_fed c = record { used = refl; block = refl }
