@@ -1,5 +1,5 @@
 pub mod Answering
-pub mod Joining
 pub mod Refused
 pub mod SoFar
+pub mod Stopping
 pub mod Told

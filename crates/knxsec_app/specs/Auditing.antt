@@ -14,26 +14,56 @@ use Rattle.audit_core.specs.Audit.{Total, telegram_in, opened_of, line_of, total
 use Rattle.audit_core.specs.Text.{line_text, total_text}
 use Rattle.knxsec_app.specs.declared.status.Status.{Status}
 use Rattle.knxsec_app.specs.declared.status.Status.TheVariants.{Done, Alarm}
-use Rattle.knxsec_app.specs.Answer.{Answer, after}
+use Rattle.knxsec_app.specs.declared.whole_file.WholeFile.{WholeFile}
+use Rattle.knxsec_app.specs.declared.whole_file.WholeFile.TheVariants.{Tables, Keyring, Password}
+use Rattle.knxsec_app.specs.Answer.{Answer, after, ◌>>=◌, answer_from}
 use Rattle.knxsec_app.specs.Refusing.{refused, tables_reason, frames_reason, keyring_reason}
 
--- ---- the tables
+-- ---- files that are read whole
 
--- the most octets of a file of tables
-abbrev pub most_tables : ℕ
-most_tables = 4194304
+-- the word for the file in a refusal
+abbrev pub word_of : WholeFile → List ℕ
+word_of Tables = codes "tables"
+word_of Keyring = codes "keyring"
+word_of Password = codes "password"
 
-abbrev pub where_rows : (List Row → Answer) → Result (List Row) TablesFault → Answer
-where_rows answer (Ok rows) = answer rows
-where_rows answer (Err fault) = refused (codes "tables") (tables_reason fault)
+-- the most octets that it may have
+abbrev pub most_of : WholeFile → ℕ
+most_of Tables = 4194304
+most_of Keyring = 4194304
+most_of Password = 4096
 
--- the answer, unless a file has more octets than it may
-abbrev pub unless_long : List ℕ → ℕ → List ℕ → Answer → Answer
-unless_long file most octets answer = if nat_lt most (length octets) then refused file (codes " long") else answer
+-- the octets of the file, unless they are more than it may have
+abbrev pub within : WholeFile → List ℕ → Result (List ℕ) Answer
+within file octets = if nat_lt (most_of file) (length octets) then Err (refused (word_of file) (codes " long")) else Ok octets
 
--- the answer under the rows of tables with these octets, or the refusal of the tables
-abbrev pub under_tables : List ℕ → (List Row → Answer) → Answer
-under_tables octets answer = unless_long (codes "tables") most_tables octets (where_rows answer (tables_of octets))
+-- ---- the rows that records are judged under
+
+abbrev pub rows_told : Result (List Row) TablesFault → Result (List Row) Answer
+rows_told (Ok rows) = Ok rows
+rows_told (Err fault) = Err (refused (codes "tables") (tables_reason fault))
+
+-- the merged rows, unless they may not stand together: no two say the same, so there are too many
+abbrev pub unless_many : Option BuildFault → List Row → Result (List Row) Answer
+unless_many None rows = Ok rows
+unless_many (Some fault) rows = Err (refused (codes "keyring") (codes " many"))
+
+-- the rows of tables, over those of a keyring where there is one
+abbrev pub laid_over : Option (List Row) → List Row → Result (List Row) Answer
+laid_over None rows = Ok rows
+laid_over (Some under) rows = unless_many (build_fault (merged rows under)) (merged rows under)
+
+-- the rows of a text of tables, over those of a keyring where there is one
+abbrev pub rows_in : Option (List Row) → List ℕ → Result (List Row) Answer
+rows_in under text = do
+  rows ← rows_told (tables_of text)
+  laid_over under rows
+
+-- the same of a file of tables
+abbrev pub installation : Option (List Row) → List ℕ → Result (List Row) Answer
+installation under tables = do
+  text ← within Tables tables
+  rows_in under text
 
 -- ---- the records
 
@@ -57,37 +87,16 @@ records_answer rows past (octets ∷ records) fault = after (record_line rows pa
 unfoldable pub frames_answer : List Row → List (List ℕ) → RecordList → Answer
 frames_answer rows past list = records_answer rows past list.records list.refused
 
--- ---- the rows of a keyring
-
--- the answer, unless the merged rows may not stand together: no two say the same, so there are too many
-abbrev pub unless_full : Option BuildFault → Answer → Answer
-unless_full None answer = answer
-unless_full (Some fault) answer = refused (codes "keyring") (codes " many")
-
--- the answer under the rows of tables, and of a keyring under them where there is one
-abbrev pub joined_answer : Option (List Row) → RecordList → List Row → Answer
-joined_answer None list rows = frames_answer rows [] list
-joined_answer (Some under) list rows = unless_full (build_fault (merged rows under)) (frames_answer (merged rows under) [] list)
-
-abbrev pub where_keyring : (List Row → Answer) → Result (List Row) KeyringFault → Answer
-where_keyring answer (Ok rows) = answer rows
-where_keyring answer (Err fault) = refused (codes "keyring") (keyring_reason fault)
-
--- ---- the whole
+-- ---- the audit under tables, and under the rows of a keyring where there is one
 
 abbrev pub tables_answer : Option (List Row) → List ℕ → List ℕ → Answer
-tables_answer under tables frames = under_tables tables (joined_answer under (records_of frames))
+tables_answer under tables frames = answer_from (installation under tables) (λ rows. frames_answer rows [] (records_of frames))
 
 -- the answer of an audit of the second file under the first
 abbrev pub audit_answer : List ℕ → List ℕ → Answer
 audit_answer tables frames = tables_answer None tables frames
 
--- the most octets of a keyring, and of a file with a password
-abbrev pub most_keyring : ℕ
-most_keyring = 4194304
-
-abbrev pub most_password : ℕ
-most_password = 4096
+-- ---- the audit under a keyring
 
 -- a password is the first line of its file
 abbrev pub first_line : List (List ℕ) → List ℕ
@@ -97,14 +106,17 @@ first_line (line ∷ rest) = line
 abbrev pub password_of : List ℕ → List ℕ
 password_of octets = first_line (lines octets)
 
--- after the keyring was read: the password comes next, and the keyring is judged before the tables are opened
-abbrev pub opened_answer : List ℕ → List ℕ → List ℕ → List ℕ → Answer
-opened_answer keyring password tables frames =
-    where_keyring (λ rows. tables_answer (Some rows) tables frames) (keyring_of keyring (password_of password))
+abbrev pub keyring_told : Result (List Row) KeyringFault → Result (List Row) Answer
+keyring_told (Ok rows) = Ok rows
+keyring_told (Err fault) = Err (refused (codes "keyring") (keyring_reason fault))
 
-abbrev pub password_answer : List ℕ → List ℕ → List ℕ → List ℕ → Answer
-password_answer keyring password tables frames = unless_long (codes "password") most_password password (opened_answer keyring password tables frames)
+-- the rows of a keyring: it is judged after the password was read
+abbrev pub keyring_rows : List ℕ → List ℕ → Result (List Row) Answer
+keyring_rows keyring password = do
+  text ← within Keyring keyring
+  secret ← within Password password
+  keyring_told (keyring_of text (password_of secret))
 
 -- the answer of an audit under a keyring, its password and tables
 abbrev pub keyring_answer : List ℕ → List ℕ → List ℕ → List ℕ → Answer
-keyring_answer keyring password tables frames = unless_long (codes "keyring") most_keyring keyring (password_answer keyring password tables frames)
+keyring_answer keyring password tables frames = answer_from (keyring_rows keyring password) (λ under. tables_answer (Some under) tables frames)

@@ -1,18 +1,17 @@
 -- The answer of a whole command, as a function of its words and files.
-use Rattle.std.specs.Prelude.{◌≡◌, ◌≢◌, ℕ, ◌<◌, List, [], ◌∷◌, ◌++◌, length, codes, Option, Some, None, unwrap_or, Ok}
+use Rattle.std.specs.Prelude.{◌≡◌, ◌≢◌, ℕ, List, [], ◌∷◌, ◌++◌, length, codes, Option, Some, None, unwrap_or, Ok, IsErr}
 use Rattle.knx_base.specs.Files.{File, Seen, IsThere, octets_named}
 use Rattle.hex.specs.Hex.{encode_lower}
 use Rattle.judge_rules.specs.declared.verdict.Verdict.{Verdict}
 use Rattle.judge_rules.specs.Text.{verdict_text}
 use Rattle.key_tables.specs.declared.types.Row.{Row}
-use Rattle.keyring_reader.specs.Keyring.{keyring_of}
-use Rattle.frame_file.specs.Records.{no_records}
 use Rattle.knxsec_app.specs.declared.status.Status.{Status}
-use Rattle.knxsec_app.specs.declared.status.Status.TheVariants.{Done, Alarm, Usage, Refused}
+use Rattle.knxsec_app.specs.declared.status.Status.TheVariants.{Done, Alarm, Usage, ReadFault, NoMemory}
+use Rattle.knxsec_app.specs.declared.whole_file.WholeFile.TheVariants.{Keyring}
 use Rattle.knxsec_app.specs.Words.{Asked, Open, Audit, AuditKeyring, command_of}
 use Rattle.knxsec_app.specs.Answer.{Answer}
 use Rattle.knxsec_app.specs.Opening.{refusal_of, apdu_of}
-use Rattle.knxsec_app.specs.Auditing.{under_tables, joined_answer, audit_answer, keyring_answer, unless_long, where_keyring, most_keyring, most_password, password_of}
+use Rattle.knxsec_app.specs.Auditing.{within, installation, keyring_rows, audit_answer, keyring_answer}
 
 -- printed where the words are of no form
 abbrev pub usage_line : List ℕ
@@ -74,22 +73,6 @@ AreRead (Some (Audit tables frames)) files seen = IsRead files seen tables × Is
 AreRead (Some (AuditKeyring keyring password tables frames)) files seen =
     IsRead files seen keyring × IsRead files seen password × IsRead files seen tables × IsRead files seen frames
 
--- this is an answer of a refusal
-abbrev pub IsRefusal : Answer → Type 0
-IsRefusal answer = answer.status ≡ Refused
-
--- what the files say of the frames that come after them: nothing, since they are not opened yet
-abbrev pub unasked : Answer
-unasked = record { report = []; status = Done }
-
--- the tables with these octets are refused, or there are too many rows with those of a keyring, where there is one
-abbrev pub RefusesTables : Option (List Row) → List ℕ → Type 0
-RefusesTables under octets = IsRefusal (under_tables octets (joined_answer under no_records))
-
--- the keyring with these octets is refused under the password
-abbrev pub RefusesKeyring : List ℕ → List ℕ → Type 0
-RefusesKeyring keyring password = IsRefusal (unless_long (codes "password") most_password password (where_keyring (λ rows. unasked) (keyring_of keyring (password_of password))))
-
 abbrev pub Stays : Seen → Seen → List ℕ → Type 0
 Stays old new name = new.places name ≡ old.places name
 
@@ -98,11 +81,11 @@ abbrev pub AreUnopened : Option Asked → List File → Seen → Seen → Type 0
 AreUnopened None files old new = Unit {0}
 AreUnopened (Some (Open key frame)) files old new = Unit {0}
 AreUnopened (Some (Audit tables frames)) files old new =
-    RefusesTables None (octets_in files tables) → (other : List ℕ) → other ≢ tables → Stays old new other
+    IsErr (installation None (octets_in files tables)) → (other : List ℕ) → other ≢ tables → Stays old new other
 AreUnopened (Some (AuditKeyring keyring password tables frames)) files old new =
-    (most_keyring < length (octets_in files keyring) → (other : List ℕ) → other ≢ keyring → Stays old new other)
-    × (RefusesKeyring (octets_in files keyring) (octets_in files password) → (other : List ℕ) → other ≢ keyring → other ≢ password → Stays old new other)
-    × ((rows : List Row) → keyring_of (octets_in files keyring) (password_of (octets_in files password)) ≡ Ok rows → RefusesTables (Some rows) (octets_in files tables)
+    (IsErr (within Keyring (octets_in files keyring)) → (other : List ℕ) → other ≢ keyring → Stays old new other)
+    × (IsErr (keyring_rows (octets_in files keyring) (octets_in files password)) → (other : List ℕ) → other ≢ keyring → other ≢ password → Stays old new other)
+    × ((rows : List Row) → keyring_rows (octets_in files keyring) (octets_in files password) ≡ Ok rows → IsErr (installation (Some rows) (octets_in files tables))
     → (other : List ℕ) → other ≢ keyring → other ≢ password → other ≢ tables → Stays old new other)
 
 -- the report was written to its end after all files were read
@@ -110,3 +93,9 @@ abbrev pub IsWhole : Status → Type 0
 IsWhole Done = Unit {0}
 IsWhole Alarm = Unit {0}
 IsWhole _ = ⊥
+
+-- neither the files nor memory failed the command
+abbrev pub IsServed : Status → Type 0
+IsServed ReadFault = ⊥
+IsServed NoMemory = ⊥
+IsServed _ = Unit {0}

@@ -1,29 +1,26 @@
-ghost use Rattle.std.specs.Prelude.{◌≡◌, ◌≢◌, ℕ, List, [], length, IsSome, Some};
+ghost use Rattle.std.specs.Prelude.{◌≡◌, ◌≢◌, ℕ, List, [], length, IsSome, Some, Ok, IsOk, IsErr, IfOk, OnOk, IfErr, MatchResult};
 ghost use Rattle.std.specs.Option.{ForSome};
 ghost use Rattle.knx_base.specs.Files.{File, Seen, Holds, IsThere};
 ghost use Rattle.knx_base.specs.Reading.{WhereTold};
 ghost use Rattle.key_tables.specs.Build.{build_fault, merged};
-ghost use Rattle.key_tables.specs.Text.{tables_of};
-ghost use Rattle.frame_file.specs.Records.{records_of, no_records};
+ghost use Rattle.frame_file.specs.Records.{records_of};
 ghost use Rattle.knxsec_app.specs.Answer.{Answers};
-ghost use Rattle.knxsec_app.specs.Auditing.{where_rows, frames_answer, joined_answer, tables_answer, unless_full};
+ghost use Rattle.knxsec_app.specs.Auditing.{frames_answer, installation, laid_over, rows_in, tables_answer, unless_many};
 ghost use Rattle.knxsec_app.specs.Asked.{rows_of};
-ghost use Rattle.knxsec_app.specs.Commands.{octets_in, IsRead, IsRefusal, IsWhole, RefusesTables, Stays};
-ghost use Rattle.knxsec_app.specs.Ends.{EndsReading, ReadsToEnd};
+ghost use Rattle.knxsec_app.specs.Commands.{octets_in, IsRead, IsServed, IsWhole, Stays};
+ghost use Rattle.knxsec_app.specs.Ends.{EndsReading, EndsTelling, OthersStay, ReadsToEnd, Stops, status_of};
 
 use crate::Status;
 use crate::page::Page;
 use crate::refusing::{refuse_tables, refuse_whole};
 use crate::report::{finish, finish_frames, pass_line, stop};
+use crate::whole_file::WholeFile;
 use audit_core::Audit;
 use frame_file::Records;
 use key_tables::{BuildFault, Row, Tables, read_tables};
-use knx_base::{FileFault, Files, Sink, read_all};
+use knx_base::{Files, Sink};
 use secure_apdu::ApduBuf;
 use std::alloc::Global;
-
-// The most octets of a file of tables.
-const MOST_TABLES: usize = 4_194_304;
 
 /// Judges the records of the file `frames` under the tables of the file `tables`, and under the rows `under` of a keyring where
 /// there is one.
@@ -42,110 +39,102 @@ pub(crate) fn audit<F: Files, S: Sink>(
         → IsRead told (F.seen files.new) tables.now × IsRead told (F.seen files.new) frames.now }
     ensures others { IsWhole result → IsSome (F.seen files.old).told → (other : List ℕ) → other ≢ tables.now → other ≢ frames.now
         → Stays (F.seen files.old) (F.seen files.new) other }
-    ensures unopened { result ≡ Status.Refused → (told : List File) → (F.seen files.old).told ≡ Some told
-        → RefusesTables (rows_of under.entry) (octets_in told tables.now) → (other : List ℕ) → other ≢ tables.now → Stays (F.seen files.old) (F.seen files.new) other }
+    ensures unopened { IsServed result → (told : List File) → (F.seen files.old).told ≡ Some told
+        → IsErr (installation (rows_of under.entry) (octets_in told tables.now)) → (other : List ℕ) → other ≢ tables.now → Stays (F.seen files.old) (F.seen files.new) other }
     ensures ends { EndsReading (F.seen files.old) (F.seen files.new) (S.faults out.old) (S.faults out.new) result }
 {
-    match read_all(alloc, files, tables, MOST_TABLES) {
-        Ok(Some(text)) => audit_under(alloc, &text, under, frames, files, out),
-        Ok(None) => refuse_whole("tables", " long", out),
-        Err(FileFault::ReadFault) => Status::ReadFault,
-        Err(FileFault::NoMemory) => Status::NoMemory,
+    match read_installation(alloc, tables, under, files, out) {
+        Ok(rows) => audit_frames(alloc, rows, frames, files, out),
+        Err(status) => status,
     }
 }
 
-// The audit under tables with this text.
-fn audit_under<F: Files, S: Sink>(
+// The rows of the named tables, over those of a keyring where there is one; or their refusal is told.
+fn read_installation<F: Files, S: Sink>(
+    alloc: Global,
+    name: &str,
+    under: Option<&[Row]>,
+    files: &mut F,
+    out: &mut S,
+) -> Result<Tables, Status>
+    requires there { ForSome (F.seen files.old).told (λ told. IsThere told name.now) }
+    ensures rows { (told : List File) → (F.seen files.old).told ≡ Some told
+        → MatchResult result (λ rows. installation (rows_of under.entry) (octets_in told name.now) ≡ Ok rows)
+        (λ status. Stops (installation (rows_of under.entry) (octets_in told name.now)) status (S.octets out.old) (S.octets out.new)) }
+    ensures read { IsOk result → (told : List File) → (F.seen files.old).told ≡ Some told → IsRead told (F.seen files.new) name.now }
+    ensures told { (F.seen files.new).told ≡ (F.seen files.old).told }
+    ensures others { IsServed (status_of result) → OthersStay (F.seen files.old) (F.seen files.new) name.now }
+    ensures unwritten { OnOk result (out.new ≡ out.old) }
+    ensures not_whole { IfErr result (λ status. IsWhole status → ⊥) }
+    ensures ends { EndsReading (F.seen files.old) (F.seen files.new) (S.faults out.old) (S.faults out.new) (status_of result) }
+{
+    let text = WholeFile::Tables.read(alloc, name, files, out)?;
+    rows_in(alloc, &text, under, out)
+}
+
+fn rows_in<S: Sink>(
     alloc: Global,
     text: &[u8],
     under: Option<&[Row]>,
-    frames: &str,
-    files: &mut F,
     out: &mut S,
-) -> Status
-    requires there { ForSome (F.seen files.old).told (λ told. IsThere told frames.now) }
-    ensures answer { (octets : List ℕ) → Holds (F.seen files.old) frames.now octets
-        → Answers (where_rows (joined_answer (rows_of under.entry) (records_of octets)) (tables_of text.now)) result (S.octets out.old) (S.octets out.new) }
-    ensures whole { IsWhole result → (octets : List ℕ) → Holds (F.seen files.old) frames.now octets → (F.seen files.new).places frames.now ≡ length octets }
-    ensures others { IsWhole result → IsSome (F.seen files.old).told → (other : List ℕ) → other ≢ frames.now → Stays (F.seen files.old) (F.seen files.new) other }
-    ensures unread { IsRefusal (where_rows (joined_answer (rows_of under.entry) no_records) (tables_of text.now)) → files.new ≡ files.old }
-    ensures ends { EndsReading (F.seen files.old) (F.seen files.new) (S.faults out.old) (S.faults out.new) result }
+) -> Result<Tables, Status>
+    ensures rows { MatchResult result (λ rows. rows_in (rows_of under.entry) text.now ≡ Ok rows)
+        (λ status. Stops (rows_in (rows_of under.entry) text.now) status (S.octets out.old) (S.octets out.new)) }
+    ensures unwritten { OnOk result (out.new ≡ out.old) }
+    ensures not_whole { IfErr result (λ status. IsWhole status → ⊥) }
+    ensures ends { EndsTelling (S.faults out.old) (S.faults out.new) (status_of result) }
 {
     match read_tables(alloc, text) {
-        Ok(rows) => audit_joined(alloc, rows.as_slice(), under, frames, files, out),
-        Err(fault) => refuse_tables(&fault, out),
+        Ok(rows) => laid_over(alloc, rows.as_slice(), under, out),
+        Err(fault) => Err(refuse_tables(&fault, out)),
     }
 }
 
-// The audit under the rows of tables.
-fn audit_joined<F: Files, S: Sink>(
+fn laid_over<S: Sink>(
     alloc: Global,
     rows: &[Row],
     under: Option<&[Row]>,
-    frames: &str,
-    files: &mut F,
     out: &mut S,
-) -> Status
-    requires there { ForSome (F.seen files.old).told (λ told. IsThere told frames.now) }
-    ensures answer { (octets : List ℕ) → Holds (F.seen files.old) frames.now octets
-        → Answers (joined_answer (rows_of under.entry) (records_of octets) rows.now) result (S.octets out.old) (S.octets out.new) }
-    ensures whole { IsWhole result → (octets : List ℕ) → Holds (F.seen files.old) frames.now octets → (F.seen files.new).places frames.now ≡ length octets }
-    ensures others { IsWhole result → IsSome (F.seen files.old).told → (other : List ℕ) → other ≢ frames.now → Stays (F.seen files.old) (F.seen files.new) other }
-    ensures unread { IsRefusal (joined_answer (rows_of under.entry) no_records rows.now) → files.new ≡ files.old }
-    ensures ends { EndsReading (F.seen files.old) (F.seen files.new) (S.faults out.old) (S.faults out.new) result }
+) -> Result<Tables, Status>
+    ensures rows { MatchResult result (λ found. laid_over (rows_of under.entry) rows.now ≡ Ok found)
+        (λ status. Stops (laid_over (rows_of under.entry) rows.now) status (S.octets out.old) (S.octets out.new)) }
+    ensures unwritten { OnOk result (out.new ≡ out.old) }
+    ensures not_whole { IfErr result (λ status. IsWhole status → ⊥) }
+    ensures ends { EndsTelling (S.faults out.old) (S.faults out.new) (status_of result) }
 {
     match under {
-        None => audit_rows(alloc, rows, frames, files, out),
-        Some(under) => audit_merged(alloc, rows, under, frames, files, out),
+        None => build(alloc, rows),
+        Some(under) => merge(alloc, rows, under, out),
     }
 }
 
-fn audit_rows<F: Files, S: Sink>(
-    alloc: Global,
-    rows: &[Row],
-    frames: &str,
-    files: &mut F,
-    out: &mut S,
-) -> Status
-    requires there { ForSome (F.seen files.old).told (λ told. IsThere told frames.now) }
-    ensures answer { (octets : List ℕ) → Holds (F.seen files.old) frames.now octets
-        → Answers (frames_answer rows.now [] (records_of octets)) result (S.octets out.old) (S.octets out.new) }
-    ensures whole { IsWhole result → (octets : List ℕ) → Holds (F.seen files.old) frames.now octets → (F.seen files.new).places frames.now ≡ length octets }
-    ensures others { IsWhole result → IsSome (F.seen files.old).told → (other : List ℕ) → other ≢ frames.now → Stays (F.seen files.old) (F.seen files.new) other }
-    ensures ends { EndsReading (F.seen files.old) (F.seen files.new) (S.faults out.old) (S.faults out.new) result }
+// Rows that a text gave may stand, so that only memory can be wanting.
+fn build(alloc: Global, rows: &[Row]) -> Result<Tables, Status>
+    ensures rows { IfOk result (λ found. found ≡ rows.now) }
+    ensures no_memory { IfErr result (λ status. status ≡ Status.NoMemory) }
 {
     match Tables::build(alloc, rows) {
-        Ok(tables) => audit_frames(alloc, tables, frames, files, out),
-        Err(_) => Status::NoMemory,
+        Ok(tables) => Ok(tables),
+        Err(_) => Err(Status::NoMemory),
     }
 }
 
-// The audit under the rows of tables over those of a keyring.
-fn audit_merged<F: Files, S: Sink>(
-    alloc: Global,
-    over: &[Row],
-    under: &[Row],
-    frames: &str,
-    files: &mut F,
-    out: &mut S,
-) -> Status
-    requires there { ForSome (F.seen files.old).told (λ told. IsThere told frames.now) }
-    ensures answer { (octets : List ℕ) → Holds (F.seen files.old) frames.now octets
-        → Answers (unless_full (build_fault (merged over.now under.now)) (frames_answer (merged over.now under.now) [] (records_of octets))) result (S.octets out.old) (S.octets out.new) }
-    ensures whole { IsWhole result → (octets : List ℕ) → Holds (F.seen files.old) frames.now octets → (F.seen files.new).places frames.now ≡ length octets }
-    ensures others { IsWhole result → IsSome (F.seen files.old).told → (other : List ℕ) → other ≢ frames.now → Stays (F.seen files.old) (F.seen files.new) other }
-    ensures unread { IsSome (build_fault (merged over.now under.now)) → files.new ≡ files.old }
-    ensures ends { EndsReading (F.seen files.old) (F.seen files.new) (S.faults out.old) (S.faults out.new) result }
+fn merge<S: Sink>(alloc: Global, over: &[Row], under: &[Row], out: &mut S) -> Result<Tables, Status>
+    ensures rows { MatchResult result (λ rows. unless_many (build_fault (merged over.now under.now)) (merged over.now under.now) ≡ Ok rows)
+        (λ status. Stops (unless_many (build_fault (merged over.now under.now)) (merged over.now under.now)) status (S.octets out.old) (S.octets out.new)) }
+    ensures unwritten { OnOk result (out.new ≡ out.old) }
+    ensures not_whole { IfErr result (λ status. IsWhole status → ⊥) }
+    ensures ends { EndsTelling (S.faults out.old) (S.faults out.new) (status_of result) }
 {
     match Tables::merge(alloc, over, under) {
-        Ok(tables) => audit_frames(alloc, tables, frames, files, out),
-        Err(BuildFault::NoMemory) => Status::NoMemory,
-        Err(BuildFault::Twice(_)) => refuse_whole("keyring", " many", out),
-        Err(BuildFault::TooMany(_)) => refuse_whole("keyring", " many", out),
+        Ok(tables) => Ok(tables),
+        Err(BuildFault::NoMemory) => Err(Status::NoMemory),
+        Err(BuildFault::Twice(_)) => Err(refuse_whole("keyring", " many", out)),
+        Err(BuildFault::TooMany(_)) => Err(refuse_whole("keyring", " many", out)),
     }
 }
 
-// The audit of the file under these tables.
+// The audit of the named file under these tables.
 fn audit_frames<F: Files, S: Sink>(
     alloc: Global,
     tables: Tables,
@@ -157,7 +146,7 @@ fn audit_frames<F: Files, S: Sink>(
     ensures answer { (octets : List ℕ) → Holds (F.seen files.old) frames.now octets
         → Answers (frames_answer tables [] (records_of octets)) result (S.octets out.old) (S.octets out.new) }
     ensures whole { IsWhole result → (octets : List ℕ) → Holds (F.seen files.old) frames.now octets → (F.seen files.new).places frames.now ≡ length octets }
-    ensures others { IsWhole result → IsSome (F.seen files.old).told → (other : List ℕ) → other ≢ frames.now → (F.seen files.new).places other ≡ (F.seen files.old).places other }
+    ensures others { IsWhole result → OthersStay (F.seen files.old) (F.seen files.new) frames.now }
     ensures ends { EndsReading (F.seen files.old) (F.seen files.new) (S.faults out.old) (S.faults out.new) result }
 {
     let Ok(()) = files.open(frames) else {

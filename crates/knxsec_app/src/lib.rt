@@ -14,6 +14,7 @@ mod status;
 #[cfg(test)]
 mod tests;
 mod top;
+mod whole_file;
 mod words;
 
 pub use status::Status;

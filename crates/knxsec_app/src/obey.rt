@@ -3,7 +3,7 @@ ghost use Rattle.std.specs.Option.{ForSome};
 ghost use Rattle.knx_base.specs.Files.{File};
 ghost use Rattle.knxsec_app.specs.Answer.{Answers};
 ghost use Rattle.knxsec_app.specs.Asked.{asked_of};
-ghost use Rattle.knxsec_app.specs.Commands.{answer_to, AreFiles, AreRead, AreThere, AreUnopened, IsWhole, NamesNoFile};
+ghost use Rattle.knxsec_app.specs.Commands.{answer_to, AreFiles, AreRead, AreThere, AreUnopened, IsServed, IsWhole, NamesNoFile};
 ghost use Rattle.knxsec_app.specs.Ends.{EndsReading, EndsWriting};
 
 use crate::Status;
@@ -27,7 +27,7 @@ pub(crate) fn obey<F: Files, S: Sink>(
         → Answers (answer_to (Some (asked_of command.now)) told) result (S.octets out.old) (S.octets out.new) }
     ensures whole { IsWhole result → (told : List File) → AreFiles (Some (asked_of command.now)) (F.seen files.old) told
         → AreRead (Some (asked_of command.now)) told (F.seen files.new) }
-    ensures unopened { result ≡ Status.Refused → (told : List File) → AreFiles (Some (asked_of command.now)) (F.seen files.old) told
+    ensures unopened { IsServed result → (told : List File) → AreFiles (Some (asked_of command.now)) (F.seen files.old) told
         → AreUnopened (Some (asked_of command.now)) told (F.seen files.old) (F.seen files.new) }
     ensures ends { EndsReading (F.seen files.old) (F.seen files.new) (S.faults out.old) (S.faults out.new) result }
     ensures no_memory { NamesNoFile (Some (asked_of command.now)) → result ≢ Status.NoMemory }

@@ -1,9 +1,8 @@
 ghost use Rattle.std.specs.Prelude.{◌≡◌, ◌≢◌, ◌+◌, ◌++◌, codes, ◌≤◌, length};
-ghost use Rattle.knx_base.specs.Faults.{Rose};
 ghost use Rattle.keyring_reader.specs.Attributes.{name_of};
 ghost use Rattle.knxsec_app.specs.Answer.{Answer, Answers};
 ghost use Rattle.knxsec_app.specs.Commands.{IsWhole};
-ghost use Rattle.knxsec_app.specs.Ends.{EndsWriting};
+ghost use Rattle.knxsec_app.specs.Ends.{EndsTelling, EndsWriting};
 ghost use Rattle.knxsec_app.specs.Refusing.{at_line, at_place, document_reason, keyring_reason, stored_text, refused, EndsTables};
 
 use crate::Status;
@@ -51,10 +50,7 @@ fn whole_line(file: &str, reason: &str) -> LineBuf
 /// Says why a text of tables is refused.
 pub(crate) fn refuse_tables<S: Sink>(fault: &TablesFault, out: &mut S) -> Status
     ensures answer { EndsTables fault.now result (S.octets out.old) (S.octets out.new) }
-    ensures no_reading { result ≢ Status.ReadFault }
-    ensures write_fault { result ≡ Status.WriteFault → Rose (S.faults out.old) (S.faults out.new) }
-    ensures later { S.faults out.old ≤ S.faults out.new }
-    ensures no_usage { result ≢ Status.Usage }
+    ensures ends { EndsTelling (S.faults out.old) (S.faults out.new) result }
     ensures not_whole { IsWhole result → ⊥ }
 {
     match fault {
@@ -86,10 +82,7 @@ pub(crate) fn line_at(file: &str, number: u64, word: &str) -> LineBuf
 pub(crate) fn refuse_keyring<S: Sink>(fault: &KeyringFault, out: &mut S) -> Status
     ensures answer { fault.now ≢ KeyringFault.NoMemory → Answers (refused (codes "keyring") (keyring_reason fault.now)) result (S.octets out.old) (S.octets out.new) }
     ensures no_memory { fault.now ≡ KeyringFault.NoMemory → (result ≡ Status.NoMemory) × (S.octets out.new ≡ S.octets out.old) }
-    ensures no_reading { result ≢ Status.ReadFault }
-    ensures write_fault { result ≡ Status.WriteFault → Rose (S.faults out.old) (S.faults out.new) }
-    ensures later { S.faults out.old ≤ S.faults out.new }
-    ensures no_usage { result ≢ Status.Usage }
+    ensures ends { EndsTelling (S.faults out.old) (S.faults out.new) result }
     ensures not_whole { IsWhole result → ⊥ }
 {
     if *fault == KeyringFault::NoMemory {

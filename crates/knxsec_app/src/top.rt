@@ -5,7 +5,7 @@ ghost use Rattle.knx_base.specs.Faults.{Rose};
 ghost use Rattle.knx_base.specs.Files.{File};
 ghost use Rattle.knxsec_app.specs.Words.{command_of};
 ghost use Rattle.knxsec_app.specs.Answer.{Answers};
-ghost use Rattle.knxsec_app.specs.Commands.{answer_of, AreFiles, AreRead, AreThere, AreUnopened, IsWhole, NamesNoFile};
+ghost use Rattle.knxsec_app.specs.Commands.{answer_of, AreFiles, AreRead, AreThere, AreUnopened, IsServed, IsWhole, NamesNoFile};
 
 use crate::Status;
 use crate::obey::{obey, print_usage};
@@ -17,10 +17,12 @@ use std::alloc::Global;
 /// answers how it ended.
 ///
 /// - `open KEYHEX FRAMEHEX` opens one frame; its words write 16 octets, and 1 to 1,024, in hexadecimal.
-/// - `audit TABLES FRAMES` judges the records of the file FRAMES under the tables of the file TABLES. The files are opened in
-///   this order, each read to its end before the next.
+/// - `audit TABLES FRAMES` judges the records of the file FRAMES under the tables of the file TABLES.
+/// - `audit-keyring KEYRING PASSWORDFILE TABLES FRAMES` does so under the rows of a keyring too, which the password in the file
+///   PASSWORDFILE opens. What the tables say of a channel stands in place of what the keyring says of it.
 ///
-/// All other words are answered by the usage line.
+/// The files are opened in the order of the words, each read to its end before the next. All other words are answered by the
+/// usage line.
 pub fn run<F: Files, S: Sink>(alloc: Global, words: &[String], files: &mut F, out: &mut S) -> Status
     // Where the files tell their names, each that the words name is one of them.
     requires there { ForSome (F.seen files.old).told (λ told. AreThere (command_of (map string_bytes words.now)) told) }
@@ -31,8 +33,8 @@ pub fn run<F: Files, S: Sink>(alloc: Global, words: &[String], files: &mut F, ou
     ensures whole { IsWhole result → (told : List File) → AreFiles (command_of (map string_bytes words.now)) (F.seen files.old) told
         → AreRead (command_of (map string_bytes words.now)) told (F.seen files.new) }
 
-    // After a refusal no further file is opened.
-    ensures unopened { result ≡ Status.Refused → (told : List File) → AreFiles (command_of (map string_bytes words.now)) (F.seen files.old) told
+    // After a refusal no further file is opened, whether or not its line could be written.
+    ensures unopened { IsServed result → (told : List File) → AreFiles (command_of (map string_bytes words.now)) (F.seen files.old) told
         → AreUnopened (command_of (map string_bytes words.now)) told (F.seen files.old) (F.seen files.new) }
 
     // Words of no form alone are answered by the usage line.

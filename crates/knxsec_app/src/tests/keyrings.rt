@@ -1,4 +1,4 @@
-ghost use Rattle.std.specs.Prelude.{◌≡◌, ◌∷◌, [], map, codes, IfOk};
+ghost use Rattle.std.specs.Prelude.{◌≡◌, ◌≤◌, ◌∷◌, [], map, codes, IfOk};
 ghost use Rattle.std.specs.String.{string_bytes};
 
 use crate::{Status, run};
@@ -40,6 +40,9 @@ const FRAMES: &str =
 const REPORT: &str =
     "1 1.1.10 > 1/0/1 accepted number 1 GroupValue_Write 0081\n2 1.1.20 > 1/0/6 accepted number 12 GroupValue_Write 0081\ntotal 2 accepted 2 sync 0 alarms 0\n";
 
+/// The number of a call that is never made.
+const NEVER: u64 = 1_000_000;
+
 fn audit_words(alloc: Global) -> Result<Vec<String>, NoMemory>
     ensures { IfOk result (λ words. map string_bytes words.items ≡ codes "audit-keyring" ∷ codes "keyring" ∷ codes "password" ∷ codes "tables" ∷ codes "frames" ∷ []) }
 {
@@ -52,13 +55,16 @@ fn audit_words(alloc: Global) -> Result<Vec<String>, NoMemory>
     Ok(words)
 }
 
-// What an audit by a keyring prints, and its status.
+// What an audit by a keyring prints, where the call on the files with this number fails, and its status.
 fn audited(
     alloc: Global,
     keyring: &str,
     password: &str,
     tables: &str,
-) -> Result<(MemSink, Status), Fail> {
+    failing: u64,
+) -> Result<(MemSink, Status), Fail>
+    requires numbered { (1 ≤ failing) × (failing ≤ 1000000) }
+{
     if keyring.len() > 5000 || password.len() > 5000 || tables.len() > 1000 {
         return Err(Fail::from("a short text"));
     }
@@ -68,6 +74,7 @@ fn audited(
     files.add("password", password.as_bytes())?;
     files.add("tables", tables.as_bytes())?;
     files.add("frames", FRAMES.as_bytes())?;
+    files.fail_at(failing)?;
     let mut out = MemSink::new(alloc, 1000)?;
     let status = run(alloc, &words, &mut files, &mut out);
     Ok((out, status))
@@ -80,7 +87,7 @@ fn a_keyring_opens_its_telegrams(rt: HostRuntime) -> Result<(), Fail> {
         "test-password\n",
         "test-password\r\nmore\n",
     ] {
-        let (out, status) = audited(rt.alloc(), HOUSE, password, "")?;
+        let (out, status) = audited(rt.alloc(), HOUSE, password, "", NEVER)?;
         assert_eq!(rt; out.bytes(), REPORT.as_bytes());
         assert_eq!(rt; status, Status::Done);
     }
@@ -89,7 +96,13 @@ fn a_keyring_opens_its_telegrams(rt: HostRuntime) -> Result<(), Fail> {
 
 #[test]
 fn tables_stand_over_the_keyring(rt: HostRuntime) -> Result<(), Fail> {
-    let (out, status) = audited(rt.alloc(), HOUSE, "test-password", "role 1/0/1 any observe")?;
+    let (out, status) = audited(
+        rt.alloc(),
+        HOUSE,
+        "test-password",
+        "role 1/0/1 any observe",
+        NEVER,
+    )?;
     let report =
         b"1 1.1.10 > 1/0/1 role needs command has observe !\n2 1.1.20 > 1/0/6 accepted number 12 GroupValue_Write 0081\ntotal 2 accepted 1 sync 0 alarms 1\n";
     assert_eq!(rt; out.bytes(), report.as_slice());
@@ -119,7 +132,7 @@ fn refused_files_end_the_report(rt: HostRuntime) -> Result<(), Fail> {
         ),
     ];
     for (keyring, password, tables, report) in rows {
-        let (out, status) = audited(alloc, keyring, password, tables)?;
+        let (out, status) = audited(alloc, keyring, password, tables, NEVER)?;
         assert_eq!(rt; out.bytes(), report.as_bytes());
         assert_eq!(rt; status, Status::Refused);
     }
@@ -129,8 +142,20 @@ fn refused_files_end_the_report(rt: HostRuntime) -> Result<(), Fail> {
 #[test]
 fn another_document_has_another_signature(rt: HostRuntime) -> Result<(), Fail> {
     let changed = HOUSE.replace(rt.alloc(), "House", "Hause")?;
-    let (out, status) = audited(rt.alloc(), &changed, "test-password", "")?;
+    let (out, status) = audited(rt.alloc(), &changed, "test-password", "", NEVER)?;
     assert!(rt; out.bytes().starts_with(b"refused keyring signature "));
     assert_eq!(rt; status, Status::Refused);
+    Ok(())
+}
+
+#[test]
+fn a_fault_of_reading_before_the_first_line_leaves_nothing_written(
+    rt: HostRuntime,
+) -> Result<(), Fail> {
+    for call in [1, 2, 3, 4, 5, 6, 7, 8, 9] {
+        let (out, status) = audited(rt.alloc(), HOUSE, "test-password", "", call)?;
+        assert_eq!(rt; out.bytes(), b"".as_slice());
+        assert_eq!(rt; status, Status::ReadFault);
+    }
     Ok(())
 }
