@@ -2,3 +2,4 @@ pub mod Names
 pub mod Failing
 pub mod Judging
 pub mod Channels
+pub mod Keeping

@@ -161,6 +161,10 @@ secure_checks t = check_control t ∷ check_plain t ∷ check_secure t ∷ []
 abbrev pub lane_checks : List Row → Telegram → List (Option Verdict)
 lane_checks rows t = secure_checks t ++ check_key rows t ∷ []
 
+-- where a receiver keeps the number of a telegram; one that fails a check before it has a channel has no lane
+unfoldable pub lane_in : List Row → Telegram → Option Lane
+lane_in rows t = if is_some (first_failing (lane_checks rows t)) then None else option_map (λ c. lane_of c (source_of t)) (channel_in rows t)
+
 abbrev pub entry_checks : List Row → Option (List ℕ) → Telegram → List (Option Verdict)
 entry_checks rows asked t = lane_checks rows t ++ check_pending asked t ∷ []
 

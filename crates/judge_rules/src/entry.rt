@@ -1,10 +1,9 @@
 ghost use Rattle.std.specs.Prelude.{◌≡◌, ◌/◌, ◌%◌, ◌==◌, [], ◌∷◌, false, Some, None, MatchResult, MatchOption, OnOk, IfOk};
-ghost use Rattle.std.specs.Option.{option_map};
 ghost use Rattle.cemi_frames.specs.Frames.{Telegram, telegram};
 ghost use Rattle.secure_apdu.specs.Secure.{is_secure, bad_secure, HasParts};
-ghost use Rattle.key_tables.specs.Rows.{lane_of, key_of};
-ghost use Rattle.judge_rules.specs.Parts.{is_group, source_of, field_in, shown_in, number_in, channel_in};
-ghost use Rattle.judge_rules.specs.Checks.{check_control, check_plain, check_pending, plain_service, secure_checks, lane_checks, entry_checks, first_failing};
+ghost use Rattle.key_tables.specs.Rows.{key_of};
+ghost use Rattle.judge_rules.specs.Parts.{is_group, field_in, shown_in, number_in, channel_in};
+ghost use Rattle.judge_rules.specs.Checks.{check_control, check_plain, check_pending, plain_service, secure_checks, lane_checks, lane_in, entry_checks, first_failing};
 
 use crate::Verdict;
 use aes_modes::Key128;
@@ -41,11 +40,9 @@ impl Entry<'_, '_> {
 }
 
 /// Where a receiver keeps the number of a frame: None where it is not secure, out of form, or without a key.
+#[tactic(auto, unfolding(crate::specs::Checks::lane_in))]
 pub fn lane_of(tables: &Tables, frame: &Frame<'_>) -> Option<Lane>
-    ensures lane { MatchOption result
-        (first_failing (lane_checks tables.now (telegram frame.now)) ≡ None → ⊥)
-        (λ lane. (first_failing (lane_checks tables.now (telegram frame.now)) ≡ None)
-        × (option_map (λ c. lane_of c (source_of (telegram frame.now))) (channel_in tables.now (telegram frame.now)) ≡ Some lane)) }
+    ensures lane { result ≡ lane_in tables.now (telegram frame.now) }
 {
     match keyed(tables, frame) {
         Ok((_, channel, _)) => Some(channel.lane(frame.source)),

@@ -1,10 +1,10 @@
-ghost use Rattle.std.specs.Prelude.{◌≡◌, ◌+◌, ◌/◌, ◌%◌, ◌==◌, ◌≤◌, length, if◌then◌else◌, Some, None};
+ghost use Rattle.std.specs.Prelude.{◌≡◌, ◌+◌, ◌/◌, ◌%◌, ◌==◌, ◌≤◌, ◌<◌, length, if◌then◌else◌, Some, None, IfSome};
 ghost use Rattle.cemi_frames.specs.Frames.{telegram};
 ghost use Rattle.knx_base.specs.Number.{number_at, number_of};
 ghost use Rattle.secure_apdu.specs.Secure.{bad_secure, HasParts};
 ghost use Rattle.key_tables.specs.Rows.{key_of};
 ghost use Rattle.judge_rules.specs.Parts.{sync_service, source_of, service_in};
-ghost use Rattle.judge_rules.specs.Checks.{check_payload, check_sender, receiver_may, opened_checks, last_checks, data_checks, good_verdict, verdict_or, first_failing, verdict_on, verdict_of, kept_of, kept_on, kept_by, opened_on, opened_by};
+ghost use Rattle.judge_rules.specs.Checks.{check_payload, check_sender, receiver_may, opened_checks, last_checks, data_checks, good_verdict, verdict_or, first_failing, lane_in, verdict_on, verdict_of, kept_of, kept_on, kept_by, opened_on, opened_by};
 
 use crate::data::{data_refusal, service_in};
 use crate::entry::{ANSWER, DATA, Entry, REQUEST, enter};
@@ -26,6 +26,8 @@ pub fn judge(
 ) -> Judgement
     ensures verdict { result.verdict ≡ verdict_of tables.now kept asked (telegram frame.now) }
     ensures keeps { result.keeps ≡ kept_by tables.now kept asked (telegram frame.now) }
+    ensures lane { IfSome result.keeps (λ keeps. lane_in tables.now (telegram frame.now) ≡ Some keeps.0) }
+    ensures above { IfSome result.keeps (λ keeps. kept < keeps.1) }
     ensures opened { apdu.new ≡ opened_by tables.now asked (telegram frame.now) }
 {
     apdu.clear();

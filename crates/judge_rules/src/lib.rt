@@ -14,5 +14,5 @@ mod verdict;
 pub use alarm::is_alarm;
 pub use entry::{lane_of, secure_parts};
 pub use judgement::judge;
-pub use text::write_verdict;
+pub use text::{put_verdict, write_verdict};
 pub use verdict::{BadService, Judgement, Verdict};

@@ -1,4 +1,4 @@
-ghost use Rattle.std.specs.Prelude.{◌≡◌, ◌++◌, ◌∷◌, [], ◌≤◌, ◌<◌, ◌/◌, ◌%◌, ℕ, List, length, codes, drop};
+ghost use Rattle.std.specs.Prelude.{◌≡◌, ◌++◌, ◌∷◌, [], ◌+◌, ◌≤◌, ◌<◌, ◌/◌, ◌%◌, ℕ, List, length, codes, drop};
 ghost use Rattle.std.specs.Fmt.{decimal};
 ghost use Rattle.hex.specs.Hex.{encode_lower};
 ghost use Rattle.knx_base.specs.Faults.{HasCause};
@@ -21,84 +21,102 @@ pub fn write_verdict<S: Sink>(verdict: &Verdict, apdu: &[u8], out: &mut S) -> Re
     ensures text { Prints (S.octets out.old) (S.octets out.new) result (verdict_text verdict.now apdu.now) }
     ensures cause { HasCause (S.faults out.old) (S.faults out.new) result }
 {
-    print_text(verdict_line(verdict, apdu).bytes(), out)
+    let mut line = LineBuf::new();
+    put_verdict(verdict, apdu, &mut line);
+    print_text(line.bytes(), out)
 }
 
-fn verdict_line(verdict: &Verdict, apdu: &[u8]) -> LineBuf
+/// Adds the text of a verdict to a line, as `write_verdict` writes it: at most 600 octets.
+pub fn put_verdict(verdict: &Verdict, apdu: &[u8], line: &mut LineBuf)
     requires short { length apdu.now ≤ 242 }
-    ensures { result ≡ verdict_text verdict.now apdu.now }
+    requires room { length line.old + 600 ≤ 1024 }
+    ensures added { line.new ≡ line.old ++ verdict_text verdict.now apdu.now }
+    ensures length { length line.new ≤ length line.old + 600 }
 {
     match verdict {
-        Verdict::Accepted { number, service } => accepted_line(number, *service, apdu),
-        Verdict::SyncAsk { number, challenge } => ask_line(number, challenge),
-        Verdict::SyncAnswer { number, kept } => two_numbers(
-            "sync-answer number ",
-            number,
-            " kept ",
-            kept,
-        ),
-        Verdict::NotFrame(fault) => not_frame_line(fault),
-        Verdict::Control(octet) => line_with_octet("control ", *octet),
-        Verdict::Plain(service) => plain_line(service),
-        Verdict::BadSecure(fault) => bad_secure_line(fault),
-        Verdict::NoKey => line_of("no-key"),
-        Verdict::NoPending => line_of("no-pending"),
-        Verdict::BadCode(codes) => bad_code_line(codes),
-        Verdict::BadPayload { said, number } => two_numbers(
-            "bad-payload said ",
-            said,
-            " number ",
-            number,
-        ),
-        Verdict::Sender => line_of("sender"),
-        Verdict::Stale { kept, got } => two_numbers("stale kept ", kept, " got ", got),
-        Verdict::Level => line_of("level"),
-        Verdict::Role { needs, has } => role_line(*needs, *has),
-        Verdict::Service(found) => bad_service_line(found),
-        Verdict::Object(found) => bad_object_line(found),
+        Verdict::Accepted { number, service } => put_accepted(number, *service, apdu, line),
+        Verdict::SyncAsk { number, challenge } => put_ask(number, challenge, line),
+        Verdict::SyncAnswer { number, kept } => {
+            put_two_numbers(
+                "sync-answer number ",
+                number.get(),
+                " kept ",
+                kept.get(),
+                line,
+            );
+        }
+        Verdict::NotFrame(fault) => put_not_frame(fault, line),
+        Verdict::Control(octet) => put_octet("control ", *octet, line),
+        Verdict::Plain(service) => put_plain(service, line),
+        Verdict::BadSecure(fault) => put_bad_secure(fault, line),
+        Verdict::NoKey => line.text("no-key"),
+        Verdict::NoPending => line.text("no-pending"),
+        Verdict::BadCode(codes) => put_bad_code(codes, line),
+        Verdict::BadPayload { said, number } => {
+            put_two_numbers(
+                "bad-payload said ",
+                said.get(),
+                " number ",
+                number.get(),
+                line,
+            );
+        }
+        Verdict::Sender => line.text("sender"),
+        Verdict::Stale { kept, got } => {
+            put_two_numbers("stale kept ", kept.get(), " got ", got.get(), line);
+        }
+        Verdict::Level => line.text("level"),
+        Verdict::Role { needs, has } => put_role(*needs, *has, line),
+        Verdict::Service(found) => put_bad_service(found, line),
+        Verdict::Object(found) => put_bad_object(found, line),
     }
 }
 
-fn accepted_line(number: &Number48, service: Service, apdu: &[u8]) -> LineBuf
+fn put_accepted(number: &Number48, service: Service, apdu: &[u8], line: &mut LineBuf)
     requires short { length apdu.now ≤ 242 }
-    ensures { result ≡ codes "accepted number " ++ decimal number.now ++ 32 ∷ [] ++ name_of service ++ 32 ∷ [] ++ encode_lower apdu.now }
+    requires room { length line.old + 600 ≤ 1024 }
+    ensures added { line.new ≡ line.old ++ codes "accepted number " ++ decimal number.now ++ 32 ∷ [] ++ name_of service ++ 32 ∷ [] ++ encode_lower apdu.now }
+    ensures length { length line.new ≤ length line.old + 600 }
 {
-    let mut line = line_with_number("accepted number ", number.get());
+    line.text("accepted number ");
+    line.decimal(number.get());
     line.octet(b' ');
     line.text(service_word(service));
     line.octet(b' ');
     line.hex(apdu);
-    line
 }
 
-fn ask_line(number: &Number48, challenge: &[u8; 6]) -> LineBuf
-    ensures { result ≡ codes "sync-ask number " ++ decimal number.now ++ codes " challenge " ++ encode_lower challenge.now }
+fn put_ask(number: &Number48, challenge: &[u8; 6], line: &mut LineBuf)
+    requires room { length line.old + 120 ≤ 1024 }
+    ensures added { line.new ≡ line.old ++ codes "sync-ask number " ++ decimal number.now ++ codes " challenge " ++ encode_lower challenge.now }
+    ensures length { length line.new ≤ length line.old + 120 }
 {
-    let mut line = line_with_number("sync-ask number ", number.get());
+    line.text("sync-ask number ");
+    line.decimal(number.get());
     line.text(" challenge ");
     line.hex(challenge);
-    line
 }
 
-fn two_numbers(first: &str, number: &Number48, second: &str, other: &Number48) -> LineBuf
+fn put_two_numbers(first: &str, number: u64, second: &str, other: u64, line: &mut LineBuf)
     requires first { length first.now ≤ 40 }
     requires second { length second.now ≤ 40 }
-    ensures { result ≡ first.now ++ decimal number.now ++ second.now ++ decimal other.now }
+    requires room { length line.old + 120 ≤ 1024 }
+    ensures added { line.new ≡ line.old ++ (first.now ++ decimal number ++ second.now ++ decimal other) }
+    ensures length { length line.new ≤ length line.old + 120 }
 {
-    let mut line = line_with_number(first, number.get());
-    line.text(second);
-    line.decimal(other.get());
-    line
+    put_number(first, number, line);
+    put_number(second, other, line);
 }
 
-fn role_line(needs: Role, has: Role) -> LineBuf
-    ensures { result ≡ codes "role needs " ++ role_name needs ++ codes " has " ++ role_name has }
+fn put_role(needs: Role, has: Role, line: &mut LineBuf)
+    requires room { length line.old + 120 ≤ 1024 }
+    ensures added { line.new ≡ line.old ++ (codes "role needs " ++ role_name needs ++ codes " has " ++ role_name has) }
+    ensures length { length line.new ≤ length line.old + 120 }
 {
-    let mut line = line_of("role needs ");
+    line.text("role needs ");
     line.text(role_word(needs));
     line.text(" has ");
     line.text(role_word(has));
-    line
 }
 
 fn role_word(role: Role) -> &'static str
@@ -112,96 +130,101 @@ fn role_word(role: Role) -> &'static str
     }
 }
 
-fn bad_service_line(found: &BadService) -> LineBuf
-    ensures { result ≡ bad_service_text found.now }
+fn put_bad_service(found: &BadService, line: &mut LineBuf)
+    requires room { length line.old + 120 ≤ 1024 }
+    ensures added { line.new ≡ line.old ++ bad_service_text found.now }
+    ensures length { length line.new ≤ length line.old + 120 }
 {
     match found {
-        BadService::UpperBits(octet) => line_with_octet("service upper ", *octet),
-        BadService::Code(bits) => bits_line(*bits),
+        BadService::UpperBits(octet) => put_octet("service upper ", *octet, line),
+        BadService::Code(bits) => put_bits(*bits, line),
     }
 }
 
 #[tactic(auto, unfolding(hex::specs::Hex::encode_with))]
-fn bits_line(bits: u16) -> LineBuf
-    ensures { result ≡ codes "service " ++ bits_text bits }
+fn put_bits(bits: u16, line: &mut LineBuf)
+    requires room { length line.old + 120 ≤ 1024 }
+    ensures added { line.new ≡ line.old ++ codes "service " ++ bits_text bits }
+    ensures length { length line.new ≤ length line.old + 120 }
 {
     let [high, low] = bits.to_be_bytes();
     let mut digits = LineBuf::new();
     digits.hex(&[high]);
-    let mut line = line_of("service ");
+    line.text("service ");
     line.octet(digits.bytes()[1]);
     line.hex(&[low]);
-    line
 }
 
-fn bad_object_line(found: &BadObject) -> LineBuf
-    ensures { result ≡ bad_object_text found.now }
+fn put_bad_object(found: &BadObject, line: &mut LineBuf)
+    requires room { length line.old + 120 ≤ 1024 }
+    ensures added { line.new ≡ line.old ++ bad_object_text found.now }
+    ensures length { length line.new ≤ length line.old + 120 }
 {
     match found {
-        BadObject::Flag => line_of("object flag"),
+        BadObject::Flag => line.text("object flag"),
         BadObject::Size(found, wanted) => {
-            let mut line = line_with_number("object size ", u64::from(*found));
-            line.octet(b' ');
-            line.decimal(u64::from(*wanted));
-            line
+            put_two_numbers(
+                "object size ",
+                u64::from(*found),
+                " ",
+                u64::from(*wanted),
+                line,
+            );
         }
     }
 }
 
-fn not_frame_line(fault: &NotFrame) -> LineBuf
-    ensures { result ≡ not_frame_text fault.now }
+fn put_not_frame(fault: &NotFrame, line: &mut LineBuf)
+    requires room { length line.old + 120 ≤ 1024 }
+    ensures added { line.new ≡ line.old ++ not_frame_text fault.now }
+    ensures length { length line.new ≤ length line.old + 120 }
 {
     match fault {
-        NotFrame::Short(found) => line_with_number("not-frame short ", *found as u64),
-        NotFrame::Code(code) => line_with_octet("not-frame code ", *code),
-        NotFrame::Info(place) => line_with_number("not-frame info ", *place as u64),
-        NotFrame::Format(control) => line_with_octet("not-frame format ", *control),
-        NotFrame::Escape => line_of("not-frame escape"),
+        NotFrame::Short(found) => put_number("not-frame short ", *found as u64, line),
+        NotFrame::Code(code) => put_octet("not-frame code ", *code, line),
+        NotFrame::Info(place) => put_number("not-frame info ", *place as u64, line),
+        NotFrame::Format(control) => put_octet("not-frame format ", *control, line),
+        NotFrame::Escape => line.text("not-frame escape"),
         NotFrame::Length(said, found) => {
-            let mut line = line_with_number("not-frame length ", *said as u64);
-            line.octet(b' ');
-            line.decimal(*found as u64);
-            line
+            put_two_numbers("not-frame length ", *said as u64, " ", *found as u64, line);
         }
         NotFrame::Check(said, computed) => {
-            let mut line = line_with_octet("not-frame check ", *said);
-            line.octet(b' ');
-            line.hex(&[*computed]);
-            line
+            put_two_octets("not-frame check ", *said, *computed, line);
         }
-        NotFrame::Acknowledge(octet) => line_with_octet("not-frame acknowledge ", *octet),
+        NotFrame::Acknowledge(octet) => put_octet("not-frame acknowledge ", *octet, line),
     }
 }
 
-fn bad_secure_line(fault: &BadSecure) -> LineBuf
-    ensures { result ≡ bad_secure_text fault.now }
+fn put_bad_secure(fault: &BadSecure, line: &mut LineBuf)
+    requires room { length line.old + 120 ≤ 1024 }
+    ensures added { line.new ≡ line.old ++ bad_secure_text fault.now }
+    ensures length { length line.new ≤ length line.old + 120 }
 {
     match fault {
-        BadSecure::Short(found) => line_with_number("bad-secure short ", u64::from(*found)),
-        BadSecure::Algorithm(algorithm) => line_with_number(
-            "bad-secure algorithm ",
-            u64::from(*algorithm),
-        ),
-        BadSecure::Broadcast => line_of("bad-secure broadcast"),
-        BadSecure::Service(service) => line_with_number("bad-secure service ", u64::from(*service)),
+        BadSecure::Short(found) => put_number("bad-secure short ", u64::from(*found), line),
+        BadSecure::Algorithm(algorithm) => {
+            put_number("bad-secure algorithm ", u64::from(*algorithm), line);
+        }
+        BadSecure::Broadcast => line.text("bad-secure broadcast"),
+        BadSecure::Service(service) => {
+            put_number("bad-secure service ", u64::from(*service), line);
+        }
         BadSecure::Sync(field, length) => {
-            let mut line = line_with_octet("bad-secure sync ", *field);
-            line.octet(b' ');
-            line.decimal(u64::from(*length));
-            line
+            put_octet_and_number("bad-secure sync ", *field, u64::from(*length), line);
         }
     }
 }
 
-fn plain_line(service: &Option<Service>) -> LineBuf
-    ensures { result ≡ codes "plain " ++ service_text service.now }
+fn put_plain(service: &Option<Service>, line: &mut LineBuf)
+    requires room { length line.old + 120 ≤ 1024 }
+    ensures added { line.new ≡ line.old ++ (codes "plain " ++ service_text service.now) }
+    ensures length { length line.new ≤ length line.old + 120 }
 {
-    let mut line = line_of("plain ");
-    line.text(match service {
-        Some(service) => service_word(*service),
-        None => "Short",
-    });
-    line
+    line.text("plain ");
+    match service {
+        Some(service) => line.text(service_word(*service)),
+        None => line.text("Short"),
+    }
 }
 
 fn service_word(service: Service) -> &'static str
@@ -211,41 +234,55 @@ fn service_word(service: Service) -> &'static str
     service_name(service)
 }
 
-fn bad_code_line(found: &CodeDiffers) -> LineBuf
-    ensures { result ≡ codes "bad-code said " ++ encode_lower found.now.said ++ codes " computed " ++ encode_lower found.now.computed }
+fn put_bad_code(found: &CodeDiffers, line: &mut LineBuf)
+    requires room { length line.old + 120 ≤ 1024 }
+    ensures added { line.new ≡ line.old ++ (codes "bad-code said " ++ encode_lower found.now.said ++ codes " computed " ++ encode_lower found.now.computed) }
+    ensures length { length line.new ≤ length line.old + 120 }
 {
-    let mut line = line_of("bad-code said ");
+    line.text("bad-code said ");
     line.hex(&found.said);
     line.text(" computed ");
     line.hex(&found.computed);
-    line
 }
 
-fn line_of(text: &str) -> LineBuf
+fn put_octet(text: &str, octet: u8, line: &mut LineBuf)
     requires short { length text.now ≤ 40 }
-    ensures { result ≡ text.now }
+    requires room { length line.old + 60 ≤ 1024 }
+    ensures added { line.new ≡ line.old ++ (text.now ++ octet_text octet) }
+    ensures length { length line.new ≤ length line.old + 60 }
 {
-    let mut line = LineBuf::new();
     line.text(text);
-    line
-}
-
-fn line_with_octet(text: &str, octet: u8) -> LineBuf
-    requires short { length text.now ≤ 40 }
-    ensures text { result ≡ text.now ++ octet_text octet }
-    ensures short { length result ≤ 60 }
-{
-    let mut line = line_of(text);
     line.hex(&[octet]);
-    line
 }
 
-fn line_with_number(text: &str, number: u64) -> LineBuf
+fn put_two_octets(text: &str, octet: u8, other: u8, line: &mut LineBuf)
     requires short { length text.now ≤ 40 }
-    ensures text { result ≡ text.now ++ decimal number }
-    ensures short { length result ≤ 60 }
+    requires room { length line.old + 120 ≤ 1024 }
+    ensures added { line.new ≡ line.old ++ (text.now ++ octet_text octet ++ 32 ∷ [] ++ octet_text other) }
+    ensures length { length line.new ≤ length line.old + 120 }
 {
-    let mut line = line_of(text);
+    put_octet(text, octet, line);
+    line.octet(b' ');
+    line.hex(&[other]);
+}
+
+fn put_octet_and_number(text: &str, octet: u8, number: u64, line: &mut LineBuf)
+    requires short { length text.now ≤ 40 }
+    requires room { length line.old + 120 ≤ 1024 }
+    ensures added { line.new ≡ line.old ++ (text.now ++ octet_text octet ++ 32 ∷ [] ++ decimal number) }
+    ensures length { length line.new ≤ length line.old + 120 }
+{
+    put_octet(text, octet, line);
+    line.octet(b' ');
     line.decimal(number);
-    line
+}
+
+fn put_number(text: &str, number: u64, line: &mut LineBuf)
+    requires short { length text.now ≤ 40 }
+    requires room { length line.old + 60 ≤ 1024 }
+    ensures added { line.new ≡ line.old ++ (text.now ++ decimal number) }
+    ensures length { length line.new ≤ length line.old + 60 }
+{
+    line.text(text);
+    line.decimal(number);
 }

@@ -8,7 +8,8 @@ use Rattle.key_tables.proofs.Firsts.{first_of-append, first_after}
 use Rattle.key_tables.specs.declared.types.Row.{Row}
 use Rattle.key_tables.specs.declared.faults.BuildFault.{BuildFault}
 use Rattle.key_tables.specs.declared.faults.BuildFault.TheVariants.{Twice, TooMany, NoMemory}
-use Rattle.key_tables.specs.Build.{row_fault, first_fault, build_fault, is_key, is_role, is_kept, merged, Adds, IsCounted, IsFault}
+use Rattle.key_tables.specs.Build.{row_fault, first_fault, build_fault, is_full, is_key, is_role, is_kept, merged, Adds, IsCounted, IsFault}
+use Rattle.key_tables.proofs.Standing.{one_more_once, room_for_key, room_for_role}
 
 -- what is still to be added is judged after what was added
 after_added : (before now xs ys : List Row) → Adds before now xs → first_fault before (xs ++ ys) ≡ first_fault now ys
@@ -21,27 +22,43 @@ unfolding build_fault
 one_more_stands rows row all one =
     first_after row_fault [] rows (row ∷ []) all ∙ ap (λ fault. option_or fault None) one
 
-one_more_passes : (p : Row → Bool) (rows : List Row) (row : Row)
-    → length (filter p (rows ++ row ∷ [])) ≡ length (filter p rows) + length (cond (p row) (row ∷ []) [])
-one_more_passes p rows row =
-    ap length (filter-append p rows (row ∷ [])) ∙ length-append (filter p rows) (cond (p row) (row ∷ []) [])
+one_more : (p : Row → Bool) (passes : Bool) (rows : List Row) (row : Row) → p row ≡ passes
+    → length (filter p (rows ++ row ∷ [])) ≡ length (filter p rows) + length (cond passes (row ∷ []) [])
+one_more p passes rows row is =
+    ap length (filter-append p rows (row ∷ []))
+    ∙ length-append (filter p rows) (cond (p row) (row ∷ []) [])
+    ∙ ap (λ b. length (filter p rows) + length (cond b (row ∷ []) [])) is
 
 pub one_more_key : (rows now : List Row) (row : Row) (keys roles : ℕ) → now ≡ rows ++ row ∷ [] → is_key row ≡ true
-    → row_fault rows row ≡ None → IsCounted rows keys roles → IsCounted now (keys + 1) roles
-one_more_key rows now row keys roles pushed kind stands counted =
+    → is_full rows row ≡ false → row_fault rows row ≡ None → IsCounted rows keys roles → IsCounted now (keys + 1) roles
+one_more_key rows now row keys roles pushed kind room stands counted =
+    let more_keys = one_more is_key true rows row kind in
+    let more_roles = one_more is_role false rows row (ap not kind) in
     subst (λ list. IsCounted list (keys + 1) roles) (sym pushed) (record {
       stand = one_more_stands rows row counted.stand stands;
-      keys_are = omega (arith, counted.keys_are, one_more_passes is_key rows row, ap (λ b. length (cond b (row ∷ []) [])) kind);
-      roles_are = omega (arith, counted.roles_are, one_more_passes is_role rows row, ap (λ b. length (cond (not b) (row ∷ []) [])) kind);
+      once = one_more_once rows row counted.once stands;
+      few = record {
+        keys = omega (arith, more_keys, counted.few.keys, room_for_key rows row kind room);
+        roles = omega (arith, more_roles, counted.few.roles);
+      };
+      keys_are = omega (arith, counted.keys_are, more_keys);
+      roles_are = omega (arith, counted.roles_are, more_roles);
     })
 
 pub one_more_role : (rows now : List Row) (row : Row) (keys roles : ℕ) → now ≡ rows ++ row ∷ [] → is_key row ≡ false
-    → row_fault rows row ≡ None → IsCounted rows keys roles → IsCounted now keys (roles + 1)
-one_more_role rows now row keys roles pushed kind stands counted =
+    → is_full rows row ≡ false → row_fault rows row ≡ None → IsCounted rows keys roles → IsCounted now keys (roles + 1)
+one_more_role rows now row keys roles pushed kind room stands counted =
+    let more_keys = one_more is_key false rows row kind in
+    let more_roles = one_more is_role true rows row (ap not kind) in
     subst (λ list. IsCounted list keys (roles + 1)) (sym pushed) (record {
       stand = one_more_stands rows row counted.stand stands;
-      keys_are = omega (arith, counted.keys_are, one_more_passes is_key rows row, ap (λ b. length (cond b (row ∷ []) [])) kind);
-      roles_are = omega (arith, counted.roles_are, one_more_passes is_role rows row, ap (λ b. length (cond (not b) (row ∷ []) [])) kind);
+      once = one_more_once rows row counted.once stands;
+      few = record {
+        keys = omega (arith, more_keys, counted.few.keys);
+        roles = omega (arith, more_roles, counted.few.roles, room_for_role rows row kind room);
+      };
+      keys_are = omega (arith, counted.keys_are, more_keys);
+      roles_are = omega (arith, counted.roles_are, more_roles);
     })
 
 adds_one : (before now new xs : List Row) (row : Row) → Adds before now xs → new ≡ now ++ row ∷ []

@@ -4,3 +4,4 @@ mod Expanding
 mod TextLemmas
 mod Unique
 mod Merging
+pub mod Standing

@@ -56,7 +56,7 @@ weaker_step true c any_b any_c h later e = let c_true = h refl in absurd cc
 weaker_step false true any_b any_c h later e = absurd cc
 weaker_step false false any_b any_c h later e = later e
 
-none_stronger : (p q : Row → Bool) → ((row : Row) → p row ≡ true → q row ≡ true) → (rows : List Row)
+pub none_stronger : (p q : Row → Bool) → ((row : Row) → p row ≡ true → q row ≡ true) → (rows : List Row)
     → list_any q rows ≡ false → list_any p rows ≡ false
 none_stronger p q h [] e = refl
 none_stronger p q h (this ∷ rows) e = weaker_step (p this) (q this) _ _ (h this) (none_stronger p q h rows) e

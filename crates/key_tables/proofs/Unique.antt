@@ -102,7 +102,7 @@ no_fault true full (Some fault) many some h = absurd cc
 no_fault true full None many some h = absurd cc
 no_fault false full twice many some h = refl
 
-stands_alone : (before : List Row) (this : Row) → row_fault before this ≡ None → is_repeated before this ≡ false
+pub stands_alone : (before : List Row) (this : Row) → row_fault before this ≡ None → is_repeated before this ≡ false
 unfolding row_fault
 stands_alone before this h = no_fault (is_repeated before this) (is_full before this) _ _ refl h
 

@@ -1,7 +1,7 @@
 -- Which lists of rows are tables, and how two lists are merged.
-use Rattle.std.specs.Prelude.{◌≡◌, ℕ, nat_le, not, Bool, true, false, if◌then◌else◌, List, [], ◌++◌, length, Option, Some, None}
+use Rattle.std.specs.Prelude.{◌≡◌, ◌≤◌, ℕ, nat_le, not, Bool, true, false, if◌then◌else◌, List, [], ◌++◌, length, Option, Some, None}
 use Rattle.std.specs.Option.{option_or}
-use Rattle.std.specs.List.{list_any, filter}
+use Rattle.std.specs.List.{list_any, filter, AllPairs}
 use Rattle.knx_base.specs.declared.address.IndAddr.{IndAddr}
 use Rattle.key_tables.specs.declared.types.Channel.{Channel}
 use Rattle.key_tables.specs.declared.types.Channel.TheVariants as channel
@@ -32,6 +32,11 @@ abbrev pub is_full : List Row → Row → Bool
 is_full before (row.Role _ _ _) = nat_le most_roles (length (filter is_role before))
 is_full before _ = nat_le most_keys (length (filter is_key before))
 
+-- so many rows of keys, and of roles, may stand in one list
+pub record AreFew (rows : List Row) : Type 0 where
+  pub keys : length (filter is_key rows) ≤ most_keys
+  pub roles : length (filter is_role rows) ≤ most_roles
+
 -- ---- rows that say twice
 
 -- the earlier row is of the same group, of the same device, or of the same sender on the same channel
@@ -42,6 +47,14 @@ repeats (row.Role channel sender _) earlier = is_role_row channel sender earlier
 
 abbrev pub is_repeated : List Row → Row → Bool
 is_repeated before row = list_any (repeats row) before
+
+-- neither row repeats the other
+abbrev pub AreApart : Row → Row → Type 0
+AreApart row other = (repeats row other ≡ false) × (repeats other row ≡ false)
+
+-- of two places in the list neither row repeats the other
+abbrev pub NoneTwice : List Row → Type 0
+NoneTwice rows = AllPairs AreApart rows
 
 -- ---- the first row that may not stand
 
@@ -68,6 +81,8 @@ build_fault rows = first_fault [] rows
 -- every row may stand, and so many of them are of keys and of roles
 pub record IsCounted (rows : List Row) (keys roles : ℕ) : Type 0 where
   pub stand : build_fault rows ≡ None
+  pub once : NoneTwice rows
+  pub few : AreFew rows
   pub keys_are : keys ≡ length (filter is_key rows)
   pub roles_are : roles ≡ length (filter is_role rows)
 

@@ -1,6 +1,6 @@
-ghost use Rattle.std.specs.Prelude.{◌≡◌, ◌++◌, ◌∷◌, [], None, false, IfErr, OnOk, OnErr};
+ghost use Rattle.std.specs.Prelude.{◌≡◌, ◌++◌, ◌∷◌, [], None, false, IfOk, IfErr, IsOk, OnOk, OnErr};
 ghost use Rattle.std.specs.List.{filter};
-ghost use Rattle.key_tables.specs.Build.{is_full, is_repeated, is_displaced, is_kept, row_fault, first_fault, build_fault, Adds, IsFault};
+ghost use Rattle.key_tables.specs.Build.{is_full, is_repeated, is_displaced, is_kept, merged, row_fault, first_fault, build_fault, Adds, AreFew, IsFault, NoneTwice};
 
 use crate::{BuildFault, Row};
 use std::alloc::Global;
@@ -45,10 +45,25 @@ impl RowList {
         }
     }
 
+    // The rows of the list above, and those of the list below that it does not displace.
+    #[tactic(auto, unfolding(crate::specs::Build::build_fault, crate::specs::Build::merged))]
+    pub(crate) fn merged(alloc: Global, over: &[Row], under: &[Row]) -> Result<RowList, BuildFault>
+        ensures rows { IfOk result (λ list. list ≡ merged over.now under.now) }
+        ensures stand { IsOk result → build_fault (merged over.now under.now) ≡ None }
+        ensures fault { IfErr result (λ fault. IsFault fault (build_fault (merged over.now under.now))) }
+    {
+        let mut list = RowList::new(alloc);
+        list.add_all(over)?;
+        list.add_kept(under, over)?;
+        Ok(list)
+    }
+
     /// The rows, in their order.
     pub fn as_slice(&self) -> &[Row]
         ensures rows { result.now ≡ self.now }
         ensures stand { build_fault self.now ≡ None }
+        ensures once { NoneTwice self.now }
+        ensures few { AreFew self.now }
     {
         &self.rows
     }

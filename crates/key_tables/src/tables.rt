@@ -1,6 +1,6 @@
-ghost use Rattle.std.specs.Prelude.{◌≡◌, ◌||◌, true, false, find, None, Some, is_some, IfSome, IfOk, IfErr, IsOk};
+ghost use Rattle.std.specs.Prelude.{◌≡◌, ◌≢◌, ℕ, ◌||◌, true, false, find, None, Some, is_some, IfSome, IfOk, IfErr, IsOk};
 ghost use Rattle.std.specs.Option.{option_map, option_or};
-ghost use Rattle.key_tables.specs.Build.{build_fault, merged, IsFault, KeysMerge, LevelsMerge, RolesMerge};
+ghost use Rattle.key_tables.specs.Build.{build_fault, merged, AreFew, IsFault, NoneTwice, KeysMerge, LevelsMerge, RolesMerge};
 ghost use Rattle.key_tables.specs.Expanded.{expanded_keys, is_of};
 ghost use Rattle.key_tables.specs.Rows.{is_key_row, is_role_row, row_key, row_level, row_role, is_own, has_key, has_role, EachSays, key_of, level_of, named_role, role_of, channel_of, device_role, keyed};
 
@@ -38,6 +38,8 @@ impl Tables {
     pub fn build(alloc: Global, rows: &[Row]) -> Result<Tables, BuildFault>
         ensures rows { IfOk result (λ tables. tables ≡ rows.now) }
         ensures stand { IsOk result → build_fault rows.now ≡ None }
+        ensures once { IfOk result (λ tables. NoneTwice tables) }
+        ensures few { IfOk result (λ tables. AreFew tables) }
         ensures fault { IfErr result (λ fault. IsFault fault (build_fault rows.now)) }
     {
         let mut list = RowList::new(alloc);
@@ -46,24 +48,28 @@ impl Tables {
     }
 
     /// The rows of `over`, and after them those key rows of `under` whose channel has no key in `over`, and those role rows whose
-    /// channel has no role in `over`, in their order. The place in a fault is counted in that list.
-    #[tactic(auto, using(crate::proofs::Merging::keys_merge, crate::proofs::Merging::levels_merge, crate::proofs::Merging::roles_merge), unfolding(crate::specs::Build::build_fault, crate::specs::Build::merged))]
+    /// channel has no role in `over`, in their order. The place in a fault is counted in that list. Where no row of either
+    /// list says again what another of it says, a fault is never `Twice`.
+    #[tactic(auto, using(crate::proofs::Merging::keys_merge, crate::proofs::Merging::levels_merge, crate::proofs::Merging::roles_merge))]
     pub fn merge(alloc: Global, over: &[Row], under: &[Row]) -> Result<Tables, BuildFault>
         ensures rows { IfOk result (λ tables. tables ≡ merged over.now under.now) }
         ensures stand { IsOk result → build_fault (merged over.now under.now) ≡ None }
+        ensures once { IfOk result (λ tables. NoneTwice tables) }
+        ensures few { IfOk result (λ tables. AreFew tables) }
         ensures fault { IfErr result (λ fault. IsFault fault (build_fault (merged over.now under.now))) }
+        ensures never_twice { NoneTwice over.now → NoneTwice under.now → IfErr result (λ fault. (row : ℕ) → fault ≢ BuildFault.Twice row) }
         ensures keys { KeysMerge over.now under.now }
         ensures levels { LevelsMerge over.now under.now }
         ensures roles { RolesMerge over.now under.now }
     {
-        let mut list = RowList::new(alloc);
-        list.add_all(over)?;
-        list.add_kept(under, over)?;
+        let list = RowList::merged(alloc, over, under)?;
         Tables::expanded(alloc, list)
     }
 
     fn expanded(alloc: Global, list: RowList) -> Result<Tables, BuildFault>
         ensures rows { IfOk result (λ tables. tables ≡ list) }
+        ensures once { IfOk result (λ tables. NoneTwice tables) }
+        ensures few { IfOk result (λ tables. AreFew tables) }
         ensures fault { IfErr result (λ fault. fault ≡ BuildFault.NoMemory) }
     {
         let keys = expanded_keys(alloc, list.as_slice())?;

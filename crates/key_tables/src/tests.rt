@@ -165,6 +165,28 @@ fn there_are_as_many_keys_as_may_be_and_no_more(rt: HostRuntime) -> Result<(), F
     Ok(())
 }
 
+#[test]
+fn there_are_as_many_roles_as_may_be_and_no_more(rt: HostRuntime) -> Result<(), Fail> {
+    let mut rows = Vec::new(rt.alloc());
+    for sender in 0..16384 {
+        rows.push(role_on(LAMP, Some(IndAddr(sender)), Role::Observe))?;
+    }
+    assert_eq!(rt; fault_of(Tables::build(rt.alloc(), &rows)), None);
+    rows.push(role_on(LAMP, None, Role::Observe))?;
+    assert_eq!(rt;
+        fault_of(Tables::build(rt.alloc(), &rows)),
+        Some(BuildFault::TooMany(16384))
+    );
+    Ok(())
+}
+
+#[test]
+fn no_key_is_shown_for_debugging(rt: HostRuntime) -> Result<(), Fail> {
+    let shown = format!(in rt.alloc(); "{:?}", tool_key(IndAddr(7), KEY))?;
+    assert_eq!(rt; shown.as_str(), "Tool { device: IndAddr(7), .. }");
+    Ok(())
+}
+
 fn fault_of(tables: Result<Tables, BuildFault>) -> Option<BuildFault> {
     match tables {
         Ok(_) => None,

@@ -3,6 +3,7 @@ ghost use Rattle.key_tables.specs.Build.{repeats, displaces};
 ghost use Rattle.key_tables.specs.Rows.{same_channel, key_channel, role_channel, is_channel, is_key_row, has_sender, is_role_row, row_key, row_level, row_role, lane_of, role_rank, is_enough};
 
 use knx_base::{GroupAddr, IndAddr};
+use std::fmt;
 
 /// What telegrams are sealed for: a group, under the group's key, or a device, under its tool key.
 #[derive(Clone, Copy, Debug, PartialEq, Eq, PartialOrd, Ord)]
@@ -38,8 +39,8 @@ pub enum Role {
     Manage,
 }
 
-/// One fact of an installation. Its key rows are the rows of groups and of tools.
-#[derive(Clone, Copy, Debug, PartialEq, Eq)]
+/// One fact of an installation. Its key rows are the rows of groups and of tools. `Debug` shows no key.
+#[derive(Clone, Copy, PartialEq, Eq)]
 pub enum Row {
     /// A group has this key, and wants telegrams of this level.
     Group {
@@ -87,6 +88,32 @@ impl Role {
             Role::Observe => 0,
             Role::Command => 1,
             Role::Manage => 2,
+        }
+    }
+}
+
+impl fmt::Debug for Row {
+    fn fmt<W: fmt::Write>(&self, f: &mut fmt::Formatter<W>) -> fmt::Result {
+        match self {
+            Row::Group { address, level, .. } => f
+                .debug_struct("Group")
+                .field("address", address)
+                .field("level", level)
+                .finish_non_exhaustive(),
+            Row::Tool { device, .. } => f
+                .debug_struct("Tool")
+                .field("device", device)
+                .finish_non_exhaustive(),
+            Row::Role {
+                channel,
+                sender,
+                role,
+            } => f
+                .debug_struct("Role")
+                .field("channel", channel)
+                .field("sender", sender)
+                .field("role", role)
+                .finish(),
         }
     }
 }

@@ -1,0 +1,15 @@
+use Rattle.std.proofs.Common.{rules}
+use Rattle.cemi_frames.specs.Frames.{telegram}
+use Rattle.judge_rules.specs.Checks.{kept_by}
+use Rattle.judge_rules.proofs.Keeping.{keeps_on_lane, keeps_above}
+use Rattle.judge_rules.proofs.judgement.judge.Goals as goal
+
+pub returns-in-Ok-clause-lane : goal.returns-in-Ok-clause-lane
+unfolding kept_by
+returns-in-Ok-clause-lane c =
+    keeps_on_lane c.args.tables.now c.args.kept c.args.asked (telegram c.args.frame.now) c.judge_entry.result.keeps (search rules)
+
+pub returns-in-Ok-clause-above : goal.returns-in-Ok-clause-above
+unfolding kept_by
+returns-in-Ok-clause-above c =
+    keeps_above c.args.tables.now c.args.kept c.args.asked (telegram c.args.frame.now) c.judge_entry.result.keeps (search rules)
