@@ -1,5 +1,5 @@
 -- Reading on composes, and what is told of the current file stays told.
-use Rattle.std.proofs.Common.{◌≡◌, ℕ, ◌+◌, List, [], ◌∷◌, ◌++◌, drop, Option, Some, None, IsSome, subst, refl, sym, ap, ◌∙◌, append-nil, arith}
+use Rattle.std.proofs.Common.{◌≡◌, ℕ, ◌+◌, ◌≤◌, List, [], ◌∷◌, ◌++◌, length, drop, Option, Some, None, IsSome, subst, refl, sym, ap, ◌∙◌, append-nil, arith}
 use Rattle.std.specs.Option.{IsSomeAnd}
 use Rattle.knx_base.specs.Files.{File, Seen, Holds, octets_named}
 use Rattle.knx_base.specs.Reading.{CurrentHas, WhereTold, ahead, GoesOn, TakesOctet, count_of}
@@ -22,6 +22,20 @@ stays seen held = record {
   placed = λ name is told at. at;
   others = λ other not_current. refl;
   within = λ octets has within. within;
+}
+
+-- what was held may count as taken, or as not
+pub takes_less : (old new : Seen) (held kept left : List ℕ) (n m : ℕ) → length left + m ≤ length kept + n → GoesOn old new held kept n → GoesOn old new held left m
+takes_less old new held kept left n m no_more goes = record {
+  told = goes.told;
+  current = goes.current;
+  forward = goes.forward;
+  last = goes.last;
+  taken = omega (arith, goes.taken, no_more);
+  less = omega (arith, goes.less, no_more);
+  placed = goes.placed;
+  others = goes.others;
+  within = goes.within;
 }
 
 -- what was taken first and then

@@ -4,24 +4,10 @@ use Rattle.std.specs.Prelude.{IfOk, option_map}
 use Rattle.std.specs.Option.{IsSomeAnd}
 use Rattle.knx_base.specs.Files.{File, Seen, Holds, IsAtStart, octets_named}
 use Rattle.knx_base.specs.Reading.{CurrentHas, WhereTold, ahead, GoesOn, ReadsRest, ReadsWhole}
-use Rattle.knx_base.proofs.Readers.{has_same, goes_then}
-
--- what was held may count as taken
-forgotten : (old new : Seen) (held kept : List ℕ) (n : ℕ) → GoesOn old new held kept n → GoesOn old new held [] n
-forgotten old new held kept n goes = record {
-  told = goes.told;
-  current = goes.current;
-  forward = goes.forward;
-  last = goes.last;
-  taken = omega (arith, goes.taken);
-  less = omega (arith, goes.less);
-  placed = goes.placed;
-  others = goes.others;
-  within = goes.within;
-}
+use Rattle.knx_base.proofs.Readers.{has_same, goes_then, takes_less}
 
 pub piece_goes : (start now next : Seen) (kept : List ℕ) → GoesOn start now [] [] 0 → GoesOn now next [] kept 0 → GoesOn start next [] [] 0
-piece_goes start now next kept first then_ = forgotten start next [] kept 0 (goes_then start now next [] [] kept 0 0 first then_)
+piece_goes start now next kept first then_ = takes_less start next [] kept [] 0 0 (omega (arith)) (goes_then start now next [] [] kept 0 0 first then_)
 
 pub piece_given : (start now next : Seen) (kept text all : List ℕ) → GoesOn start now [] [] 0 → WhereTold start (λ octets. drop start.place octets ≡ text ++ drop now.place octets)
     → WhereTold now (λ octets. drop now.place octets ≡ ahead next kept octets) → all ≡ text ++ kept → WhereTold start (λ octets. drop start.place octets ≡ all ++ drop next.place octets)

@@ -97,19 +97,6 @@ goes_on start now later rows audit next records following held kept old mid new 
           ∙ regrouped so_far.front held (record_line rows so_far.past octets) passed.0 kept (passed.2 ∙ ap (λ text. held ++ text) is_line) (frames_answer rows (octets ∷ so_far.past) (left later following all));
     }
 
-pub fewer : (old new : Seen) (held kept : List ℕ) → GoesOn old new held kept 1 → GoesOn old new held kept 0
-fewer old new held kept goes = record {
-  told = goes.told;
-  current = goes.current;
-  forward = goes.forward;
-  last = goes.last;
-  taken = omega (arith, goes.taken);
-  less = omega (arith, goes.less);
-  placed = goes.placed;
-  others = goes.others;
-  within = goes.within;
-}
-
 -- ---- the ends
 
 -- what was written on, of what waits and the answer to what is left, is of the whole answer

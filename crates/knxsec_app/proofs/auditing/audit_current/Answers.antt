@@ -1,10 +1,10 @@
-use Rattle.std.proofs.Common.{rules, ◌+◌, [], ap, sym, subst, ◌∙◌}
+use Rattle.std.proofs.Common.{rules, arith, ◌+◌, [], ap, sym, subst, ◌∙◌}
 use Rattle.knx_base.specs.Files.{Seen}
-use Rattle.knx_base.proofs.Readers.{goes_then}
+use Rattle.knx_base.proofs.Readers.{goes_then, takes_less}
 use Rattle.knxsec_app.specs.Answer.{Answers}
 use Rattle.frame_file.specs.Records.{records_of}
 use Rattle.knxsec_app.specs.Auditing.{frames_answer}
-use Rattle.knxsec_app.proofs.SoFar.{goes_on, fewer, stops, stops_at_line, finishes, refuses, reads_to_end, some_given, none_given, fault_given, first_left}
+use Rattle.knxsec_app.proofs.SoFar.{goes_on, stops, stops_at_line, finishes, refuses, reads_to_end, some_given, none_given, fault_given, first_left}
 use Rattle.knxsec_app.proofs.auditing.audit_current.Goals as goal
 
 pub records-preserved : goal.records-preserved
@@ -17,7 +17,7 @@ records-preserved g c =
     record {
       no_fault = given.0.still_none;
       at = given.0.gives.at;
-      goes = goes_then start now later _ _ _ 0 0 before.goes (fewer now later _ _ given.0.gives.goes);
+      goes = goes_then start now later _ _ _ 0 0 before.goes (takes_less now later _ _ _ 1 0 (omega (arith)) given.0.gives.goes);
       counted = c.in-Ok-frame.ensures.counted ∙ ap (λ n. n + 1) before.counted ∙ sym given.0.gives.counted;
       few = given.0.gives.few;
       so_far = goes_on start now later _ _ _ _ _ _ _ _ _ _ _ _ c.in-Ok-Some.record.time c.in-Ok-frame.line before.so_far before.goes (first_left now later _ _ _ _ given.0)
