@@ -6,11 +6,11 @@ use Rattle.cemi_frames.specs.Frames.{Telegram}
 use Rattle.cemi_frames.specs.declared.frame.NotFrame.{NotFrame}
 use Rattle.key_tables.specs.declared.types.Lane.{Lane}
 use Rattle.key_tables.specs.declared.types.Row.{Row}
-use Rattle.judge_rules.specs.Checks.{Kept}
+use Rattle.judge_rules.specs.Checks.{lane_in, Kept}
+use Rattle.judge_rules.proofs.Keeping.{kept_by-parts}
 use Rattle.audit_core.specs.declared.line.Line.{Line}
-use Rattle.audit_core.specs.Audit.{AllKept, same_lane, lane_in, greatest_on, mark_under, no_challenge, telegram_in, kept_of, with_kept, all_kept, audit_mark, line_of, line_under, lines_of, total_of, is_accepted, is_sync, has_alarm}
+use Rattle.audit_core.specs.Audit.{AllKept, same_lane, greatest_on, mark_under, no_challenge, telegram_in, kept_of, with_kept, all_kept, audit_mark, line_of, line_under, lines_of, total_of, is_accepted, is_sync, has_alarm}
 use Rattle.audit_core.specs.State.{AuditState, Knows, Steps, raised, one_if, with_line}
-use Rattle.audit_core.proofs.Keeping.{kept_by-parts}
 use Rattle.audit_core.proofs.Lanes.{same_lane-is}
 
 -- ---- marks

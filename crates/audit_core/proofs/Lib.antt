@@ -1,4 +1,2 @@
-pub mod Keeping
 pub mod Knowing
-pub mod LaneOf
 pub mod Lanes

@@ -1,6 +1,5 @@
 -- The audit of a list of records: what stands in the line of each, by the records before it. The latest of those comes first.
 use Rattle.std.specs.Prelude.{ℕ, ◌+◌, ◌==◌, ◌&&◌, max, if◌then◌else◌, List, [], ◌∷◌, length, Bool, true, false, Option, Some, None, Result, Ok, Err}
-use Rattle.std.specs.Option.{option_map, is_some}
 use Rattle.std.specs.List.{filter}
 use Rattle.cemi_frames.specs.Frames.{Telegram}
 use Rattle.cemi_frames.specs.Faults.{frame_fault}
@@ -9,11 +8,10 @@ use Rattle.cemi_frames.specs.declared.frame.NotFrame.{NotFrame}
 use Rattle.key_tables.specs.declared.types.Lane.{Lane}
 use Rattle.key_tables.specs.declared.types.Lane.TheVariants as lane
 use Rattle.key_tables.specs.declared.types.Row.{Row}
-use Rattle.key_tables.specs.Rows.{lane_of}
 use Rattle.judge_rules.specs.declared.verdict.Verdict.{Verdict}
 use Rattle.judge_rules.specs.declared.verdict.Verdict.TheVariants as verdict
-use Rattle.judge_rules.specs.Parts.{is_group, source_of, channel_in}
-use Rattle.judge_rules.specs.Checks.{lane_checks, first_failing, verdict_of, kept_by, opened_by, is_alarm, Kept}
+use Rattle.judge_rules.specs.Parts.{is_group, source_of}
+use Rattle.judge_rules.specs.Checks.{lane_in, verdict_of, kept_by, opened_by, is_alarm, Kept}
 use Rattle.audit_core.specs.declared.line.Line.{Line}
 
 -- ---- marks
@@ -22,10 +20,6 @@ abbrev pub same_lane : Lane → Lane → Bool
 same_lane (lane.Run sender) (lane.Run other) = sender.0 == other.0
 same_lane (lane.Tool device sender) (lane.Tool other from) = device.0 == other.0 && sender.0 == from.0
 same_lane _ _ = false
-
--- where a receiver keeps the number of a telegram; a telegram that fails a check before it has a channel has no lane
-unfoldable pub lane_in : List Row → Telegram → Option Lane
-lane_in rows t = if is_some (first_failing (lane_checks rows t)) then None else option_map (λ c. lane_of c (source_of t)) (channel_in rows t)
 
 -- numbers that were kept, each on its lane
 abbrev pub AllKept : Type 0

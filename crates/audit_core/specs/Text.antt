@@ -28,15 +28,13 @@ abbrev pub end_text : Bool → List ℕ
 end_text true = codes " !\n"
 end_text false = codes "\n"
 
+-- what stands before the verdict
 abbrev pub head_text : Line → Option ℤ → List ℕ
 head_text line time = decimal line.index ++ time_text time ++ 32 ∷ [] ++ place_text line.addresses line.repeated ++ 32 ∷ []
 
-abbrev pub tail_text : Line → List ℕ → List ℕ
-tail_text line apdu = verdict_text line.verdict apdu ++ end_text line.alarm
-
 -- the line of a record, with its time and the APDU that was opened
 abbrev pub line_text : Line → Option ℤ → List ℕ → List ℕ
-line_text line time apdu = head_text line time ++ tail_text line apdu
+line_text line time apdu = head_text line time ++ verdict_text line.verdict apdu ++ end_text line.alarm
 
 abbrev pub total_text : Total → List ℕ
 total_text total =

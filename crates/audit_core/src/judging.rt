@@ -3,8 +3,8 @@ ghost use Rattle.std.specs.Map.{lookup};
 ghost use Rattle.cemi_frames.specs.Frames.{telegram};
 ghost use Rattle.key_tables.specs.declared.types.Lane.{Lane};
 ghost use Rattle.key_tables.specs.declared.types.Row.{Row};
-ghost use Rattle.judge_rules.specs.Checks.{opened_by};
-ghost use Rattle.audit_core.specs.Audit.{same_lane, lane_in, mark_under, no_challenge, telegram_in, kept_of, opened_of, telegram_line, line_under};
+ghost use Rattle.judge_rules.specs.Checks.{lane_in, opened_by};
+ghost use Rattle.audit_core.specs.Audit.{same_lane, mark_under, no_challenge, telegram_in, kept_of, opened_of, telegram_line, line_under};
 ghost use Rattle.audit_core.specs.Marks.{mark_in};
 ghost use Rattle.audit_core.specs.State.{raised};
 
@@ -68,19 +68,9 @@ fn reserve(tables: &Tables, marks: &mut Marks, frame: &Frame<'_>) -> Result<Numb
     ensures same { (other : Lane) → mark_in marks.new other ≡ mark_in marks.old other }
     ensures unchanged { OnErr result (marks.new ≡ marks.old) }
 {
-    match lane_in(tables, frame) {
+    match lane_of(tables, frame) {
         Some(lane) => marks.reserve(lane),
         None => Ok(zero()),
-    }
-}
-
-#[tactic(auto, using(crate::proofs::LaneOf::lane_told, crate::proofs::LaneOf::lane_untold))]
-fn lane_in(tables: &Tables, frame: &Frame<'_>) -> Option<Lane>
-    ensures { result ≡ lane_in tables.now (telegram frame.now) }
-{
-    match lane_of(tables, frame) {
-        Some(lane) => Some(lane),
-        None => None,
     }
 }
 

@@ -3,10 +3,11 @@ ghost use Rattle.std.specs.Fmt.{decimal};
 ghost use Rattle.knx_base.specs.Faults.{HasCause};
 ghost use Rattle.knx_base.specs.Sink.{Prints};
 ghost use Rattle.knx_base.specs.Address.{individual_text, group_text};
-ghost use Rattle.audit_core.specs.Text.{time_text, address_text, repeat_text, place_text, end_text, head_text, tail_text, line_text};
+ghost use Rattle.judge_rules.specs.Text.{verdict_text};
+ghost use Rattle.audit_core.specs.Text.{time_text, address_text, repeat_text, place_text, end_text, head_text, line_text};
 
 use crate::{Addresses, Line};
-use judge_rules::write_verdict;
+use judge_rules::put_verdict;
 use knx_base::{Failed, GroupAddr, IndAddr, LineBuf, Sink, print_text};
 use secure_apdu::ApduBuf;
 
@@ -21,41 +22,31 @@ pub fn print_line<S: Sink>(
     ensures text { Prints (S.octets out.old) (S.octets out.new) result (line_text line.now time apdu.now) }
     ensures cause { HasCause (S.faults out.old) (S.faults out.new) result }
 {
-    print_head(line, time, out)?;
-    print_tail(line, apdu, out)
+    let mut text = LineBuf::new();
+    put_line(line, time, apdu, &mut text);
+    print_text(text.bytes(), out)
 }
 
-fn print_head<S: Sink>(line: &Line, time: Option<i64>, out: &mut S) -> Result<(), Failed>
-    ensures text { Prints (S.octets out.old) (S.octets out.new) result (head_text line.now time) }
-    ensures cause { HasCause (S.faults out.old) (S.faults out.new) result }
+fn put_line(line: &Line, time: Option<i64>, apdu: &ApduBuf, text: &mut LineBuf)
+    requires empty { text.old ≡ [] }
+    ensures { text.new ≡ line_text line.now time apdu.now }
 {
-    print_text(head(line, time).bytes(), out)
-}
-
-#[tactic(auto, using(knx_base::proofs::Printing::prints_then, knx_base::proofs::Printing::prints_no_more))]
-fn print_tail<S: Sink>(line: &Line, apdu: &ApduBuf, out: &mut S) -> Result<(), Failed>
-    ensures text { Prints (S.octets out.old) (S.octets out.new) result (tail_text line.now apdu.now) }
-    ensures cause { HasCause (S.faults out.old) (S.faults out.new) result }
-{
-    write_verdict(&line.verdict, apdu.bytes(), out)?;
-    if line.alarm {
-        print_text(b" !\n", out)
-    } else {
-        print_text(b"\n", out)
-    }
+    put_head(line, time, text);
+    put_verdict(&line.verdict, apdu.bytes(), text);
+    text.text(if line.alarm { " !\n" } else { "\n" });
 }
 
 // What stands before the verdict.
-fn head(line: &Line, time: Option<i64>) -> LineBuf
-    ensures { result ≡ head_text line.now time }
+fn put_head(line: &Line, time: Option<i64>, text: &mut LineBuf)
+    requires empty { text.old ≡ [] }
+    ensures head { text.new ≡ head_text line.now time }
+    ensures short { length text.new ≤ 120 }
 {
-    let mut head = LineBuf::new();
-    head.decimal(line.index);
-    put_time(time, &mut head);
-    head.octet(b' ');
-    put_place(&line.addresses, line.repeated, &mut head);
-    head.octet(b' ');
-    head
+    text.decimal(line.index);
+    put_time(time, text);
+    text.octet(b' ');
+    put_place(&line.addresses, line.repeated, text);
+    text.octet(b' ');
 }
 
 fn put_time(time: Option<i64>, line: &mut LineBuf)

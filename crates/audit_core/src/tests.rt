@@ -215,11 +215,6 @@ fn a_failing_sink_has_a_part_of_the_text(rt: HostRuntime) -> Result<(), Fail> {
     let printed = print_line(&refused_line(), None, &ApduBuf::new(), &mut full);
     assert_eq!(rt; printed, Err(Failed));
     assert_eq!(rt; full.bytes(), b"7 1.1".as_slice());
-    // The verdict is written after what stands before it.
-    let mut armed = MemSink::new(rt.alloc(), 100)?;
-    armed.fail_at(2)?;
-    let printed = print_line(&refused_line(), None, &ApduBuf::new(), &mut armed);
-    assert_eq!(rt; printed, Err(Failed));
     let mut failing = MemSink::new(rt.alloc(), 100)?;
     failing.fail_at(1)?;
     let rows = read_tables(rt.alloc(), CONF)?;
