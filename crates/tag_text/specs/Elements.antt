@@ -7,8 +7,8 @@ use Rattle.tag_text.specs.Document.{most_open, after_order_mark}
 use Rattle.tag_text.specs.declared.tag.Tag.{Tag}
 use Rattle.tag_text.specs.declared.tag.Tag.TheVariants.{Start, End}
 
--- Of a document of so many octets a text, which is read up to a rest, with the tags that it gives. Elements stand in one
--- another no deeper than so many levels. The place of a tag is what stands before it
+-- In a document of so many octets a text is an element, or content, up to the rest, and gives these tags, each with the
+-- number of octets before it as its place. So many levels of elements may stand in one another from here on
 mutual
   -- an element: an empty-element tag, or a start tag, content and the end tag of the same name
   pub data IsElement (total : ℕ) : ℕ → List ℕ → List ℕ → List Tag → Type 0 where
