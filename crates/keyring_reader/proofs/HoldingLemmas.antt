@@ -34,7 +34,7 @@ both_ways false false a b l r = refl
 both_ways true false a b l r = sym (eq-eqb b a (sym (eqb-true a b l))) ∙ r
 both_ways false true a b l r = sym (sym (eq-eqb a b (sym (eqb-true b a r))) ∙ l)
 
-eqb-comm : (a b : ℕ) → (a == b) ≡ (b == a)
+pub eqb-comm : (a b : ℕ) → (a == b) ≡ (b == a)
 eqb-comm a b = both_ways (a == b) (b == a) a b refl refl
 
 known_more : (rows : List Row) (row : Row) (channel : Channel) → has_key (rows ++ row ∷ []) channel ≡ (has_key rows channel || (is_key_row channel row || false))

@@ -14,3 +14,4 @@ mod KeyringLemmas
 mod NoTagLemmas
 mod OrderLemmas
 mod SameLemmas
+mod OnceLemmas

@@ -1,4 +1,5 @@
 ghost use Rattle.std.specs.Prelude.{◌≡◌, ◌≢◌, Ok, IfOk, IfErr, MatchResult, Err};
+ghost use Rattle.key_tables.specs.Build.{NoneTwice};
 ghost use Rattle.keyring_reader.specs.Keys.{password_key};
 ghost use Rattle.keyring_reader.specs.Keyring.{is_computed, signature_fault, wrapping_of, keyring_under, keyring_of, IsFault};
 
@@ -78,6 +79,7 @@ pub(crate) fn keyring_under(
     tags: &[Tag],
 ) -> Result<Keyring, KeyringFault>
     ensures rows { IfOk result (λ keyring. keyring_under key tags.now ≡ Ok keyring) }
+    ensures once { IfOk result (λ keyring. NoneTwice keyring) }
     ensures fault { IfErr result (λ fault. IsFault fault (keyring_under key tags.now)) }
 {
     let (created, signature) = stamps_of(tags)?;
@@ -95,6 +97,7 @@ pub(crate) fn keyring_under(
 /// has a second key of a group or a device. No key is used before the signature was found to be the computed one.
 pub fn read_keyring(alloc: Global, bytes: &[u8], password: &[u8]) -> Result<Keyring, KeyringFault>
     ensures rows { IfOk result (λ keyring. keyring_of bytes.now password.now ≡ Ok keyring) }
+    ensures once { IfOk result (λ keyring. NoneTwice keyring) }
     ensures fault { IfErr result (λ fault. IsFault fault (keyring_of bytes.now password.now)) }
     ensures memory { IfErr result (λ fault. fault ≢ KeyringFault.Tag TagFault.NoMemory) }
 {

@@ -1,6 +1,7 @@
 use Rattle.std.proofs.Common.{rules}
 use Rattle.keyring_reader.specs.Keyring.{Stamps, keyring_under, IsFault}
 use Rattle.keyring_reader.proofs.KeyringLemmas.{no_stamps, no_wrapping, no_contents, all_rows}
+use Rattle.keyring_reader.proofs.OnceLemmas.{rows_once}
 use Rattle.keyring_reader.proofs.keyring.keyring_under.Goals as goal
 
 pub returns-in_err-created-clause-fault : goal.returns-in_err-created-clause-fault
@@ -30,3 +31,8 @@ returns-clause-rows c =
     let contents = c.in_ok-gathered.ensures.contents in
     all_rows c.args.key c.args.tags.now stamps c.in_ok-under.under contents.0 c.in_ok-rows.rows.items c.in_ok-created.ensures c.in_ok-under.ensures.wrapping
     contents.1 (c.in_ok-rows.ensures contents.0 contents.2)
+
+pub returns-clause-once : goal.returns-clause-once
+returns-clause-once c =
+    let contents = c.in_ok-gathered.ensures.contents in
+    rows_once c.in_ok-under.under c.args.tags.now contents.0 c.in_ok-rows.rows.items contents.1 (c.in_ok-rows.ensures contents.0 contents.2)
