@@ -1,9 +1,10 @@
 -- From what was printed to the answer of a command.
-use Rattle.std.proofs.Common.{◌≡◌, ℕ, ◌==◌, Bool, true, false, List, [], ◌++◌, length, take, Option, Some, Result, Ok, Err, refl, sym, ap, subst, ◌∙◌, append-nil}
+use Rattle.std.proofs.Common.{◌≡◌, ℕ, ◌==◌, Bool, true, false, List, [], ◌++◌, length, take, Option, Some, Result, Ok, Err, refl, sym, ap, subst, ◌∙◌, append-nil, ◌≤◌, ◌⊎◌, inl, inr}
 use Rattle.std.specs.Prelude.{MatchResult, if◌then◌else◌}
 use Rattle.std.specs.Result.{IsErr}
 use Rattle.std.specs.Io.KnownBytes.{append_known}
 use Rattle.std.proofs.Math.Seq.{take-append_seam}
+use Rattle.knx_base.specs.Faults.{HasCause, Rose}
 use Rattle.knx_base.specs.Sink.{AppendsPrefix, Prints}
 use Rattle.knx_base.proofs.Printing.{append_known-append, prints_then, prints_no_more}
 use Rattle.audit_core.specs.Audit.{Total}
@@ -85,3 +86,9 @@ pub fails_through : {T E : Type 0} (result : Result T E) (old new : Option (List
     → Passes held kept old new result text
 fails_through (Ok x) old new held kept text failed begun = absurd cc
 fails_through (Err e) old new held kept text failed begun = prefix_more old new held text begun
+
+-- all that waited went on, or the sink counted a fault
+pub handed_or_rose : {T E : Type 0} (result : Result T E) (old new : Option (List ℕ)) (held : List ℕ) (before now : ℕ) → Prints old new result held → HasCause before now result
+    → (new ≡ append_known old held) ⊎ Rose before now
+handed_or_rose (Ok x) old new held before now printed cause = inl printed
+handed_or_rose (Err e) old new held before now printed cause = inr cause.failed

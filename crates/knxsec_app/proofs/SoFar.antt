@@ -215,6 +215,13 @@ fault_given seen later old new result fault is no_fault gives = cause (subst (Gi
   cause (inl before) = elim (none-some fault (sym no_fault ∙ before)) [ ]
   cause (inr said) = said.1
 
+-- whatever was given, the files tell the same
+pub gives_told : (seen later : Seen) (old new : RecordsState) (result : Result (Option Record) RecordFault) → old.fault ≡ None → Gives seen later old new result
+    → later.told ≡ seen.told
+gives_told seen later old new (Ok (Some given)) no_fault gives = gives.0.gives.goes.told
+gives_told seen later old new (Ok None) no_fault gives = gives.ends.goes.told
+gives_told seen later old new (Err fault) no_fault gives = (gives.first no_fault).told
+
 -- the first of the records that were left is the one that was given
 pub first_left : (seen later : Seen) (old new : RecordsState) (number : ℕ) (octets : List ℕ) → TakesRecord seen later old new number octets
     → WhereTold seen (λ all. left seen old.reader all ≡ with_record octets (left later new.reader all))

@@ -1,6 +1,8 @@
 -- What an audit answers: a line for each record, by those before it, and the total.
 use Rattle.std.specs.Prelude.{ℕ, ◌==◌, nat_lt, if◌then◌else◌, List, [], ◌∷◌, length, codes, Option, Some, None, Result, Ok, Err}
 use Rattle.std.specs.Str.Lines.{lines}
+use Rattle.knx_base.specs.declared.whole_file.FileFault.{FileFault}
+use Rattle.knx_base.specs.declared.whole_file.FileFault.TheVariants as unread
 use Rattle.key_tables.specs.declared.types.Row.{Row}
 use Rattle.key_tables.specs.declared.faults.TablesFault.{TablesFault}
 use Rattle.key_tables.specs.declared.faults.BuildFault.{BuildFault}
@@ -13,7 +15,7 @@ use Rattle.frame_file.specs.Records.{RecordList, records_of}
 use Rattle.audit_core.specs.Audit.{Total, telegram_in, opened_of, line_of, total_of}
 use Rattle.audit_core.specs.Text.{line_text, total_text}
 use Rattle.knxsec_app.specs.declared.status.Status.{Status}
-use Rattle.knxsec_app.specs.declared.status.Status.TheVariants.{Done, Alarm}
+use Rattle.knxsec_app.specs.declared.status.Status.TheVariants.{Done, Alarm, ReadFault, NoMemory}
 use Rattle.knxsec_app.specs.declared.whole_file.WholeFile.{WholeFile}
 use Rattle.knxsec_app.specs.declared.whole_file.WholeFile.TheVariants.{Tables, Keyring, Password}
 use Rattle.knxsec_app.specs.Answer.{Answer, after, ◌>>=◌, answer_from}
@@ -36,6 +38,11 @@ most_of Password = 4096
 -- the octets of the file, unless they are more than it may have
 abbrev pub within : WholeFile → List ℕ → Result (List ℕ) Answer
 within file octets = if nat_lt (most_of file) (length octets) then Err (refused (word_of file) (codes " long")) else Ok octets
+
+-- the status where it could not be read
+abbrev pub unread_status : FileFault → Status
+unread_status unread.ReadFault = ReadFault
+unread_status unread.NoMemory = NoMemory
 
 -- ---- the rows that records are judged under
 

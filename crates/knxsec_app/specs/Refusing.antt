@@ -2,6 +2,8 @@
 use Rattle.std.specs.Prelude.{◌≡◌, ℕ, List, [], ◌∷◌, ◌++◌, codes, Option, Some, None}
 use Rattle.std.specs.Fmt.{decimal}
 use Rattle.knx_base.specs.Cause.{cause_word}
+use Rattle.key_tables.specs.declared.faults.BuildFault.{BuildFault}
+use Rattle.key_tables.specs.declared.faults.BuildFault.TheVariants as build
 use Rattle.key_tables.specs.declared.faults.TablesFault.{TablesFault}
 use Rattle.key_tables.specs.declared.faults.TablesFault.TheVariants as tables
 use Rattle.tag_text.specs.declared.tag.TagFault.{TagFault}
@@ -68,6 +70,12 @@ keyring_reason keyring.NoMemory = []
 abbrev pub EndsTables : TablesFault → Status → Option (List ℕ) → Option (List ℕ) → Type 0
 EndsTables tables.NoMemory ended old new = (ended ≡ status.NoMemory) × (new ≡ old)
 EndsTables fault ended old new = Answers (refused (codes "tables") (tables_reason fault)) ended old new
+
+-- What is answered where merged rows have this fault: that there are too many, since no two of them say the same; or that memory
+-- was wanting.
+abbrev pub EndsMerged : BuildFault → Status → Option (List ℕ) → Option (List ℕ) → Type 0
+EndsMerged build.NoMemory ended old new = (ended ≡ status.NoMemory) × (new ≡ old)
+EndsMerged fault ended old new = Answers (refused (codes "keyring") (codes " many")) ended old new
 
 -- What is answered where the reader of a list of frames ends with this fault: what waited, and then the refusal; or that the
 -- files failed, or that memory was wanting.

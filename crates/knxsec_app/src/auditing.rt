@@ -12,12 +12,12 @@ ghost use Rattle.knxsec_app.specs.Ends.{EndsReading, EndsTelling, OthersStay, Re
 
 use crate::Status;
 use crate::page::Page;
-use crate::refusing::{refuse_tables, refuse_whole};
+use crate::refusing::{refuse_merged, refuse_tables};
 use crate::report::{finish, finish_frames, pass_line, stop};
 use crate::whole_file::WholeFile;
 use audit_core::Audit;
 use frame_file::Records;
-use key_tables::{BuildFault, Row, Tables, read_tables};
+use key_tables::{Row, Tables, read_tables};
 use knx_base::{Files, Sink};
 use secure_apdu::ApduBuf;
 use std::alloc::Global;
@@ -41,6 +41,7 @@ pub(crate) fn audit<F: Files, S: Sink>(
         → Stays (F.seen files.old) (F.seen files.new) other }
     ensures unopened { IsServed result → (told : List File) → (F.seen files.old).told ≡ Some told
         → IsErr (installation (rows_of under.entry) (octets_in told tables.now)) → (other : List ℕ) → other ≢ tables.now → Stays (F.seen files.old) (F.seen files.new) other }
+    ensures told { (F.seen files.new).told ≡ (F.seen files.old).told }
     ensures ends { EndsReading (F.seen files.old) (F.seen files.new) (S.faults out.old) (S.faults out.new) result }
 {
     match read_installation(alloc, tables, under, files, out) {
@@ -128,9 +129,7 @@ fn merge<S: Sink>(alloc: Global, over: &[Row], under: &[Row], out: &mut S) -> Re
 {
     match Tables::merge(alloc, over, under) {
         Ok(tables) => Ok(tables),
-        Err(BuildFault::NoMemory) => Err(Status::NoMemory),
-        Err(BuildFault::Twice(_)) => Err(refuse_whole("keyring", " many", out)),
-        Err(BuildFault::TooMany(_)) => Err(refuse_whole("keyring", " many", out)),
+        Err(fault) => Err(refuse_merged(&fault, out)),
     }
 }
 
@@ -147,6 +146,7 @@ fn audit_frames<F: Files, S: Sink>(
         → Answers (frames_answer tables [] (records_of octets)) result (S.octets out.old) (S.octets out.new) }
     ensures whole { IsWhole result → (octets : List ℕ) → Holds (F.seen files.old) frames.now octets → (F.seen files.new).places frames.now ≡ length octets }
     ensures others { IsWhole result → OthersStay (F.seen files.old) (F.seen files.new) frames.now }
+    ensures told { (F.seen files.new).told ≡ (F.seen files.old).told }
     ensures ends { EndsReading (F.seen files.old) (F.seen files.new) (S.faults out.old) (S.faults out.new) result }
 {
     let Ok(()) = files.open(frames) else {
@@ -166,6 +166,7 @@ fn audit_current<F: Files, S: Sink>(
     requires start { (F.seen files.old).place ≡ 0 }
     ensures answer { WhereTold (F.seen files.old) (λ octets. Answers (frames_answer tables [] (records_of octets)) result (S.octets out.old) (S.octets out.new)) }
     ensures whole { IsWhole result → ReadsToEnd (F.seen files.old) (F.seen files.new) }
+    ensures told { (F.seen files.new).told ≡ (F.seen files.old).told }
     ensures ends { EndsReading (F.seen files.old) (F.seen files.new) (S.faults out.old) (S.faults out.new) result }
 {
     let Ok(mut records) = Records::new(alloc) else {

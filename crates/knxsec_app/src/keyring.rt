@@ -35,6 +35,7 @@ pub(crate) fn audit_by_keyring<F: Files, S: Sink>(
         × IsRead told (F.seen files.new) names.now.tables.now × IsRead told (F.seen files.new) names.now.frames.now }
     ensures unopened { IsServed result → (told : List File) → (F.seen files.old).told ≡ Some told
         → AreUnopened (Some (AuditKeyring names.now.keyring.now names.now.password.now names.now.tables.now names.now.frames.now)) told (F.seen files.old) (F.seen files.new) }
+    ensures told { (F.seen files.new).told ≡ (F.seen files.old).told }
     ensures ends { EndsReading (F.seen files.old) (F.seen files.new) (S.faults out.old) (S.faults out.new) result }
 {
     match open_keyring(alloc, names, files, out) {

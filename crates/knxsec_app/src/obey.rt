@@ -29,6 +29,7 @@ pub(crate) fn obey<F: Files, S: Sink>(
         → AreRead (Some (asked_of command.now)) told (F.seen files.new) }
     ensures unopened { IsServed result → (told : List File) → AreFiles (Some (asked_of command.now)) (F.seen files.old) told
         → AreUnopened (Some (asked_of command.now)) told (F.seen files.old) (F.seen files.new) }
+    ensures told { (F.seen files.new).told ≡ (F.seen files.old).told }
     ensures ends { EndsReading (F.seen files.old) (F.seen files.new) (S.faults out.old) (S.faults out.new) result }
     ensures no_memory { NamesNoFile (Some (asked_of command.now)) → result ≢ Status.NoMemory }
     ensures no_reading { NamesNoFile (Some (asked_of command.now)) → result ≢ Status.ReadFault }

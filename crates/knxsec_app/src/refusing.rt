@@ -3,11 +3,11 @@ ghost use Rattle.keyring_reader.specs.Attributes.{name_of};
 ghost use Rattle.knxsec_app.specs.Answer.{Answer, Answers};
 ghost use Rattle.knxsec_app.specs.Commands.{IsWhole};
 ghost use Rattle.knxsec_app.specs.Ends.{EndsTelling, EndsWriting};
-ghost use Rattle.knxsec_app.specs.Refusing.{at_line, at_place, document_reason, keyring_reason, stored_text, refused, EndsTables};
+ghost use Rattle.knxsec_app.specs.Refusing.{at_line, at_place, document_reason, keyring_reason, stored_text, refused, EndsMerged, EndsTables};
 
 use crate::Status;
 use crate::ending::ended;
-use key_tables::TablesFault;
+use key_tables::{BuildFault, TablesFault};
 use keyring_reader::{Attribute, KeyringFault};
 use knx_base::{LineBuf, Sink, print_text};
 use tag_text::TagFault;
@@ -50,6 +50,7 @@ fn whole_line(file: &str, reason: &str) -> LineBuf
 /// Says why a text of tables is refused.
 pub(crate) fn refuse_tables<S: Sink>(fault: &TablesFault, out: &mut S) -> Status
     ensures answer { EndsTables fault.now result (S.octets out.old) (S.octets out.new) }
+    ensures memory { result ≡ Status.NoMemory → fault.now ≡ TablesFault.NoMemory }
     ensures ends { EndsTelling (S.faults out.old) (S.faults out.new) result }
     ensures not_whole { IsWhole result → ⊥ }
 {
@@ -78,10 +79,25 @@ pub(crate) fn line_at(file: &str, number: u64, word: &str) -> LineBuf
     line
 }
 
+/// Says that there are too many merged rows: no two of them say the same.
+pub(crate) fn refuse_merged<S: Sink>(fault: &BuildFault, out: &mut S) -> Status
+    ensures answer { EndsMerged fault.now result (S.octets out.old) (S.octets out.new) }
+    ensures memory { result ≡ Status.NoMemory → fault.now ≡ BuildFault.NoMemory }
+    ensures ends { EndsTelling (S.faults out.old) (S.faults out.new) result }
+    ensures not_whole { IsWhole result → ⊥ }
+{
+    match fault {
+        BuildFault::Twice(_) => refuse_whole("keyring", " many", out),
+        BuildFault::TooMany(_) => refuse_whole("keyring", " many", out),
+        BuildFault::NoMemory => Status::NoMemory,
+    }
+}
+
 /// Says why a keyring is refused.
 pub(crate) fn refuse_keyring<S: Sink>(fault: &KeyringFault, out: &mut S) -> Status
     ensures answer { fault.now ≢ KeyringFault.NoMemory → Answers (refused (codes "keyring") (keyring_reason fault.now)) result (S.octets out.old) (S.octets out.new) }
     ensures no_memory { fault.now ≡ KeyringFault.NoMemory → (result ≡ Status.NoMemory) × (S.octets out.new ≡ S.octets out.old) }
+    ensures memory { result ≡ Status.NoMemory → fault.now ≡ KeyringFault.NoMemory }
     ensures ends { EndsTelling (S.faults out.old) (S.faults out.new) result }
     ensures not_whole { IsWhole result → ⊥ }
 {

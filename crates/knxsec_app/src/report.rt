@@ -1,4 +1,5 @@
-ghost use Rattle.std.specs.Prelude.{◌≡◌, ◌≢◌, ◌≤◌};
+ghost use Rattle.std.specs.Prelude.{◌≡◌, ◌≢◌, ◌≤◌, ◌⊎◌};
+ghost use Rattle.std.specs.Io.KnownBytes.{append_known};
 ghost use Rattle.knx_base.specs.Faults.{HasCause, Rose};
 ghost use Rattle.knx_base.specs.Sink.{Prints, AppendsPrefix};
 ghost use Rattle.audit_core.specs.Text.{line_text, total_text};
@@ -65,6 +66,7 @@ fn total_status(audit: &Audit) -> Status
 pub(crate) fn finish_frames<S: Sink>(fault: &RecordFault, page: &mut Page, out: &mut S) -> Status
     ensures answer { EndsList fault.now page.old.held result (S.octets out.old) (S.octets out.new) }
     ensures read_fault { result ≡ Status.ReadFault → fault.now ≡ RecordFault.ReadFault }
+    ensures memory { result ≡ Status.NoMemory → fault.now ≡ RecordFault.NoMemory }
     ensures write_fault { result ≡ Status.WriteFault → Rose (S.faults out.old) (S.faults out.new) }
     ensures later { S.faults out.old ≤ S.faults out.new }
     ensures no_usage { result ≢ Status.Usage }
@@ -95,9 +97,11 @@ fn finish_refused<S: Sink>(line: &LineBuf, page: &mut Page, out: &mut S) -> Stat
 }
 
 /// Hands on what waits where the report can't go on, as far as the sink takes it.
+#[tactic(auto, using(crate::proofs::Answering::handed_or_rose))]
 pub(crate) fn stop<S: Sink>(status: Status, page: &mut Page, out: &mut S) -> Status
     ensures status { result ≡ status }
     ensures text { AppendsPrefix (S.octets out.old) (S.octets out.new) page.old.held }
+    ensures handed { (S.octets out.new ≡ append_known (S.octets out.old) page.old.held) ⊎ Rose (S.faults out.old) (S.faults out.new) }
     ensures later { S.faults out.old ≤ S.faults out.new }
 {
     let _ = page.hand_on(out);

@@ -37,6 +37,9 @@ pub fn run<F: Files, S: Sink>(alloc: Global, words: &[String], files: &mut F, ou
     ensures unopened { IsServed result → (told : List File) → AreFiles (command_of (map string_bytes words.now)) (F.seen files.old) told
         → AreUnopened (command_of (map string_bytes words.now)) told (F.seen files.old) (F.seen files.new) }
 
+    // The files tell the same as before.
+    ensures told { (F.seen files.new).told ≡ (F.seen files.old).told }
+
     // Words of no form alone are answered by the usage line.
     ensures usage { result ≡ Status.Usage → command_of (map string_bytes words.now) ≡ None }
 

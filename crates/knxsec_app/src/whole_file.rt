@@ -1,7 +1,7 @@
 ghost use Rattle.std.specs.Prelude.{◌≡◌, ◌≤◌, ℕ, List, Some, Ok, OnOk, IfErr, IsOk, MatchResult, length};
 ghost use Rattle.std.specs.Option.{ForSome};
 ghost use Rattle.knx_base.specs.Files.{File, IsThere};
-ghost use Rattle.knxsec_app.specs.Auditing.{word_of, most_of, within};
+ghost use Rattle.knxsec_app.specs.Auditing.{word_of, most_of, within, unread_status};
 ghost use Rattle.knxsec_app.specs.Commands.{octets_in, IsRead, IsServed, IsWhole};
 ghost use Rattle.knxsec_app.specs.Ends.{EndsReading, OthersStay, Stops, status_of};
 
@@ -64,8 +64,17 @@ impl WholeFile {
         match read_all(alloc, files, name, self.most()) {
             Ok(Some(text)) => Ok(text),
             Ok(None) => Err(refuse_whole(self.word(), " long", out)),
-            Err(FileFault::ReadFault) => Err(Status::ReadFault),
-            Err(FileFault::NoMemory) => Err(Status::NoMemory),
+            Err(fault) => Err(unread(fault)),
         }
+    }
+}
+
+// How a command ends that could not read a file.
+fn unread(fault: FileFault) -> Status
+    ensures status { result ≡ unread_status fault }
+{
+    match fault {
+        FileFault::ReadFault => Status::ReadFault,
+        FileFault::NoMemory => Status::NoMemory,
     }
 }

@@ -211,6 +211,16 @@ fn a_fault_before_the_first_line_leaves_nothing_written(rt: HostRuntime) -> Resu
 }
 
 #[test]
+fn a_fault_of_reading_after_records_leaves_their_lines(rt: HostRuntime) -> Result<(), Fail> {
+    let (out, status) = audited(rt.alloc(), TABLES, TWICE, 6)?;
+    let lines =
+        b"1 1.1.7 > 1/2/3 accepted number 5 GroupValue_Write 0081\n2 1.1.7 > 1/2/3 stale kept 5 got 5 !\n";
+    assert_eq!(rt; out.bytes(), lines.as_slice());
+    assert_eq!(rt; status, Status::ReadFault);
+    Ok(())
+}
+
+#[test]
 fn an_audit_of_the_host_s_files(rt: HostRuntime) -> Result<(), Fail> {
     fs::write(&rt, "tables", TABLES)?;
     fs::write(&rt, "frames", TWICE)?;

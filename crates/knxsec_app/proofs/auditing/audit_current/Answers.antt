@@ -4,7 +4,7 @@ use Rattle.knx_base.proofs.Readers.{goes_then, takes_less}
 use Rattle.knxsec_app.specs.Answer.{Answers}
 use Rattle.frame_file.specs.Records.{records_of}
 use Rattle.knxsec_app.specs.Auditing.{frames_answer}
-use Rattle.knxsec_app.proofs.SoFar.{goes_on, stops, stops_at_line, finishes, refuses, reads_to_end, some_given, none_given, fault_given, first_left}
+use Rattle.knxsec_app.proofs.SoFar.{goes_on, stops, stops_at_line, finishes, refuses, reads_to_end, some_given, none_given, fault_given, gives_told, first_left}
 use Rattle.knxsec_app.proofs.auditing.audit_current.Goals as goal
 
 pub records-preserved : goal.records-preserved
@@ -61,3 +61,23 @@ returns-in-Err-clause-answer g c =
     let now : Seen = g.F.Files.seen c.records.files in
     let refused = fault_given now (g.F.Files.seen c.next.new.files) _ _ c.next.result c.in-Err.fault c.in-Err.is before.no_fault c.next.follows.holds-at-none in
     refuses (g.F.Files.seen c.args.files.now) now (g.F.Files.seen c.next.new.files) _ _ _ _ _ _ _ _ c.in-Err.fault before.so_far before.goes refused c.finish_frames.ensures.answer
+
+pub returns-in_default-frame-clause-told : goal.returns-in_default-frame-clause-told
+returns-in_default-frame-clause-told g c =
+    let before = c.records.invariant in
+    gives_told (g.F.Files.seen c.records.files) (g.F.Files.seen c.next.new.files) _ _ c.next.result before.no_fault c.next.follows.holds-at-none ∙ before.goes.told
+
+pub returns-in_default-pass_line-clause-told : goal.returns-in_default-pass_line-clause-told
+returns-in_default-pass_line-clause-told g c =
+    let before = c.records.invariant in
+    gives_told (g.F.Files.seen c.records.files) (g.F.Files.seen c.next.new.files) _ _ c.next.result before.no_fault c.next.follows.holds-at-none ∙ before.goes.told
+
+pub returns-in-Ok-None-clause-told : goal.returns-in-Ok-None-clause-told
+returns-in-Ok-None-clause-told g c =
+    let before = c.records.invariant in
+    gives_told (g.F.Files.seen c.records.files) (g.F.Files.seen c.next.new.files) _ _ c.next.result before.no_fault c.next.follows.holds-at-none ∙ before.goes.told
+
+pub returns-in-Err-clause-told : goal.returns-in-Err-clause-told
+returns-in-Err-clause-told g c =
+    let before = c.records.invariant in
+    gives_told (g.F.Files.seen c.records.files) (g.F.Files.seen c.next.new.files) _ _ c.next.result before.no_fault c.next.follows.holds-at-none ∙ before.goes.told
