@@ -1,6 +1,10 @@
 //! The program: the words of the command line, the host's files and standard output, handed to `run`.
 #![tactic(auto)]
 
+ghost use Rattle.std.specs.Prelude.{◌≡◌};
+ghost use Rattle.std.specs.Option.{option_map};
+ghost use Rattle.knxsec.specs.Faults.{fault_text_of};
+
 use knx_base::{HostFiles, HostSink};
 use knxsec_app::{Status, run};
 use std::alloc::{AllocGlobal, Global};
@@ -30,7 +34,9 @@ fn words_after_name<R: rt::Env + AllocGlobal>(alloc: Global, rt: &R) -> io::Resu
 }
 
 // What standard error is told where the report is not whole.
-fn fault_text(status: Status) -> Option<&'static str> {
+fn fault_text(status: Status) -> Option<&'static str>
+    ensures text { option_map (λ text. text.now) result ≡ fault_text_of status }
+{
     match status {
         Status::ReadFault => Some("read fault"),
         Status::WriteFault => Some("write fault"),
