@@ -6,8 +6,3 @@ mod DecimalLemmas
 mod Pieces
 mod AddressLemmas
 pub mod Places
-mod LineTexts
-mod LineSays
-pub mod Readers
-mod LineReads
-mod WholeFiles
