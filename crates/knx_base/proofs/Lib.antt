@@ -1,3 +1,4 @@
+pub mod Causes
 pub mod NumberLemmas
 pub mod Printing
 pub mod ShelfLemmas

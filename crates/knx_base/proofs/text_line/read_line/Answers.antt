@@ -1,6 +1,7 @@
 use Rattle.std.proofs.Common.{ℕ, ◌≡◌, ◌<◌, List, [], ◌∷◌, ◌++◌, length, subst, sym, ap, ◌∙◌, append_assoc, length-append, rules, arith}
 use Rattle.knx_base.specs.Files.{Seen}
 use Rattle.knx_base.specs.Reading.{ahead}
+use Rattle.knx_base.proofs.Causes.{cause_kept}
 use Rattle.knx_base.proofs.Readers.{goes_octet, none_taken, octet_taken}
 use Rattle.knx_base.proofs.LineReads.{IsOneLine, one_more, reads_to_feed, reads_to_end, reads_too_long}
 use Rattle.knx_base.proofs.text_line.read_line.Goals as goal
@@ -38,5 +39,14 @@ octets-preserved g c =
       given = λ octets has.
           octet_taken start now next c.args.source.now c.octets.source c.next.new.self c.octets.line _ c.in-Some.octet c.in_ok-octet.field-0 c.in-Some.is before.goes before.given c.in_ok-octet.ensures.given octets has
           ∙ sym (append_assoc c.octets.line (c.in-Some.octet ∷ []) (ahead next c.next.new.self octets)) ∙ ap (λ (line : List ℕ). line ++ ahead next c.next.new.self octets) (sym added);
-      later = search rules;
+      kept = search rules;
     }
+
+pub returns-in_default-clause-cause : goal.returns-in_default-clause-cause
+returns-in_default-clause-cause g c = cause_kept (c.in_ok-octet.ensures.cause.kept ∙ c.octets.invariant.kept)
+
+pub returns-then-octet-eq10-clause-cause : goal.returns-then-octet-eq10-clause-cause
+returns-then-octet-eq10-clause-cause g c = cause_kept (c.in_ok-octet.ensures.cause.kept ∙ c.octets.invariant.kept)
+
+pub returns-then-is_full-clause-cause : goal.returns-then-is_full-clause-cause
+returns-then-is_full-clause-cause g c = cause_kept (c.in_ok-octet.ensures.cause.kept ∙ c.octets.invariant.kept)

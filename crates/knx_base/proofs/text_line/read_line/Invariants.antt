@@ -9,7 +9,7 @@ invariant-octets g l = record {
   room : length l.line ≤ 1025;
   none : All (λ octet. eqb octet 10 ≡ false) l.line;
   given : WhereTold (g.F.Files.seen l.fn.files) (λ octets. ahead (g.F.Files.seen l.fn.files) l.fn.source octets ≡ l.line ++ ahead (g.F.Files.seen l.files) l.source octets);
-  later : (g.F.Files.seen l.fn.files).faults ≤ (g.F.Files.seen l.files).faults;
+  kept : (g.F.Files.seen l.files).faults ≡ (g.F.Files.seen l.fn.files).faults;
 }
 
 abbrev pub decreases-octets : goal.decreases-octets

@@ -8,7 +8,7 @@ invariant-pieces g l = record {
   empty : l.source ≡ [];
   room : length l.text.items ≤ l.most;
   given : WhereTold (g.F.Files.seen l.fn.files) (λ octets. drop (g.F.Files.seen l.fn.files).place octets ≡ l.text.items ++ drop (g.F.Files.seen l.files).place octets);
-  later : (g.F.Files.seen l.fn.files).faults ≤ (g.F.Files.seen l.files).faults;
+  kept : (g.F.Files.seen l.files).faults ≡ (g.F.Files.seen l.fn.files).faults;
 }
 
 abbrev pub decreases-pieces : goal.decreases-pieces
