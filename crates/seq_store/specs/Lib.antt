@@ -1,6 +1,7 @@
 pub mod Agrees
 pub mod Calls
 pub mod Draws
+pub mod Keeps
 pub mod Laws
 pub mod Layout
 pub mod Refusal

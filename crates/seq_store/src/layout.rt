@@ -12,6 +12,14 @@ use knx_base::Number48;
 use mark_cells::{CELL_SIZE, CellFault, cell_reading, format_cell, raise_cell, read_cell};
 use nvm_model::{Nvm, NvmFault};
 
+/// The number of octets of a memory of so many lanes.
+pub fn store_size(lanes: usize) -> usize
+    requires lanes_fit { lanes ≤ most_lanes }
+    ensures size { result ≡ store_size lanes }
+{
+    CELL_SIZE * (1 + lanes)
+}
+
 // The place of the cell of this value.
 #[tactic(auto, unfolding(crate::specs::Layout::place_of))]
 fn place_of(lanes: usize, value: usize) -> usize
