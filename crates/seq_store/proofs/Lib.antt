@@ -2,6 +2,7 @@ pub mod Bound
 pub mod Cells
 pub mod Formatting
 pub mod Keeping
+pub mod Living
 pub mod Raises
 pub mod Restored
 pub mod Running

@@ -4,6 +4,7 @@ pub mod Draws
 pub mod Keeps
 pub mod Laws
 pub mod Layout
+pub mod Lives
 pub mod Refusal
 pub mod Runs
 pub mod Store

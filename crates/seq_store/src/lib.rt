@@ -18,6 +18,6 @@ mod store;
 mod tests;
 
 pub use fault::{DrawFault, StoreFault, StoreRefused};
-pub use law::raises_keep_numbers;
+pub use law::{layout_laws, numbers_are_fresh, raises_keep_numbers};
 pub use layout::{format_store, store_size, stored_value};
 pub use store::SeqStore;
