@@ -8,6 +8,8 @@ pub returns : goal.returns
 unfolding value_of
 returns c =
     let inside : c.place_of-at.result + 14 ≤ length c.args.image.now = omega (arith, c.requires.size) in
-    c.cell_reading.ensures.value
-    ∙ reading_same c.copy_from_slice.new.self c.args.image.now c.place_of-at.result (copied_from _ _ _ inside c.copy_from_slice.ensures.after)
-    ∙ ap (reading c.args.image.now) c.place_of-at.ensures.cell
+    record {
+      value = c.cell_reading.ensures.value
+          ∙ reading_same c.copy_from_slice.new.self c.args.image.now c.place_of-at.result (copied_from _ _ _ inside c.copy_from_slice.ensures.after)
+          ∙ ap (reading c.args.image.now) c.place_of-at.ensures.cell;
+    }
