@@ -1,7 +1,6 @@
 -- Application PDUs that carry a value of a group object (ISO/IEC 14543-3-1, the services of group values). This is statement.
 use Rattle.std.specs.Prelude.{◌≡◌, ℕ, ◌+◌, List, [], slice_index, if◌then◌else◌, Bool, true, false, Ok}
 use Rattle.plain_apdu.specs.declared.service.Service.{Service}
-use Rattle.plain_apdu.specs.declared.service.Service.TheVariants.{GroupValueRead, GroupValueResponse, GroupValueWrite}
 use Rattle.plain_apdu.specs.Service as services
 use Rattle.plain_apdu.specs.Apdu.{Inner, inner_of, apdu_of, apci_of}
 use Rattle.group_objects.specs.declared.service.SendService.{SendService}

@@ -1,5 +1,5 @@
 -- What an application PDU does to a group object. This is statement.
-use Rattle.std.specs.Prelude.{◌≡◌, ℕ, ◌<◌, ◌≤◌, ◌⊎◌, List, length, slice_index, Bool, true, false, Result, Ok, Err}
+use Rattle.std.specs.Prelude.{◌≡◌, ℕ, ◌<◌, ◌≤◌, ◌⊎◌, List, length, slice_index, Bool, true, false, Result, Ok, Err, IfOk}
 use Rattle.plain_apdu.specs.declared.object.BadObject.{BadObject}
 use Rattle.plain_apdu.specs.declared.object.BadObject.TheVariants as bad
 use Rattle.plain_apdu.specs.declared.service.Service.{Service}
@@ -60,6 +60,11 @@ abbrev pub AsksFor : List ℕ → Effect → Type 0
 AsksFor apdu effect.Read = service_in apdu ≡ GroupValueRead
 AsksFor apdu (effect.Write value) = Carries GroupValueWrite value apdu
 AsksFor apdu (effect.Response value) = Carries GroupValueResponse value apdu
+
+-- What is done is what the PDU asks for; and what it asks for is done where the flag allows its service and a value has the object's form.
+pub record IsExact (row : ObjectRow) (apdu : List ℕ) (answer : Result Effect BadObject) : Type 0 where
+  pub is_asked : IfOk answer (λ act. AsksFor apdu act)
+  pub is_done : (act : Effect) → AsksFor apdu act → KeepsForm row.value act → is_allowed row.flags (service_in apdu) ≡ true → answer ≡ Ok act
 
 abbrev pub service_sent : SendService → Service
 service_sent send.Read = GroupValueRead

@@ -1,5 +1,5 @@
 -- The objects of a device: which lists of rows are objects, what each holds, and what may be set. This is statement.
-use Rattle.std.specs.Prelude.{◌≡◌, ℕ, ◌<◌, ◌≤◌, ◌==◌, ◌&&◌, nat_lt, Bool, true, false, if◌then◌else◌, List, [], ◌∷◌, ◌++◌, length, map, take, slice_get, slice_set, position, AllPairs, Option, Some, None, option_map}
+use Rattle.std.specs.Prelude.{◌≡◌, ℕ, ◌==◌, nat_lt, Bool, true, false, if◌then◌else◌, List, [], ◌∷◌, ◌++◌, length, map, take, slice_get, slice_set, position, AllPairs, Option, Some, None, option_map}
 use Rattle.std.specs.List.{list_any}
 use Rattle.knx_base.specs.declared.address.GroupAddr.{GroupAddr}
 use Rattle.group_objects.specs.declared.row.ObjectRow.{ObjectRow}

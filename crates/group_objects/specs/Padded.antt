@@ -1,6 +1,6 @@
 -- How a value lies in its room of 14 octets, with zeros behind it. This is plumbing for proofs.
 use Rattle.std.specs.Prelude.{◌≡◌, ℕ, ◌-◌, ◌<◌, ◌≤◌, List, ◌++◌, length, take, drop, replicate, slice_index, Bool, true}
-use Rattle.std.proofs.Common.{sym, ap, ◌∙◌, arith}
+use Rattle.std.proofs.Common.{sym, ap, ◌∙◌}
 use Rattle.std.proofs.lemmas.List.{take-append-drop}
 use Rattle.group_objects.specs.declared.value.Value.TheInside.{Inside}
 

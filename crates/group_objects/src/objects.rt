@@ -1,7 +1,7 @@
 ghost use Rattle.std.specs.Prelude.{◌≡◌, ◌≢◌, ℕ, ◌↔◌, ◌<◌, ◌≤◌, None, Some, [], true, length, slice_get, option_map, IfSome, IfOk, IfErr, IsNone, IsOk, OnOk, OnErr};
 ghost use Rattle.std.specs.Result.{result_err};
 ghost use Rattle.std.specs.List.{list_any};
-ghost use Rattle.group_objects.specs.Effects.{accepted, AsksFor, IsGroupApdu, KeepsForm};
+ghost use Rattle.group_objects.specs.Effects.{accepted, IsExact, IsGroupApdu, KeepsForm};
 ghost use Rattle.group_objects.specs.Objects.{KeepsForms, IsFirstTwice, NoneTwice, at_start, first_twice, first_values, is_of, most_rows, objects_fault, place_of, set_refusal, with_value_at};
 ghost use Rattle.group_objects.specs.Value.{same_form};
 
@@ -117,6 +117,17 @@ impl Objects {
         ensures forms { KeepsForms self.now }
     {
         Some(*self.values.get(index)?)
+    }
+
+    /// What an application PDU of the object's group does to it, as `ObjectRow::accepts` says it.
+    pub fn accepts(&self, index: usize, apdu: &[u8]) -> Result<Effect, BadObject>
+        requires there { index < length self.now.rows }
+        requires group { IsGroupApdu apdu.now }
+        ensures effect { option_map (λ row. accepted row apdu.now) (slice_get self.now.rows index) ≡ Some result }
+        ensures form { IfSome (slice_get self.now.rows index) (λ row. IfOk result (λ effect. KeepsForm row.value effect)) }
+        ensures exact { IfSome (slice_get self.now.rows index) (λ row. IsExact row apdu.now result) }
+    {
+        self.rows[index].accepts(apdu)
     }
 
     /// Sets the value of an object, which is to have the form of the one that it holds.

@@ -24,6 +24,7 @@ impl SendService {
     pub fn write_apdu(self, value: &Value, out: &mut [u8]) -> usize
         requires room { 16 ≤ length out.old }
         ensures size { result ≡ length (service_apdu self value.now) }
+        ensures bounds { (2 ≤ result) × (result ≤ 16) }
         ensures octets { out.new ≡ service_apdu self value.now ++ drop result out.old }
         ensures reads_back { ReadsBack self value.now (service_apdu self value.now) }
     {
@@ -40,6 +41,7 @@ fn write_value(code: u16, value: &Value, out: &mut [u8]) -> usize
     requires code { code < 960 }
     requires room { 16 ≤ length out.old }
     ensures size { result ≡ length (carrying code value.now) }
+    ensures bounds { (2 ≤ result) × (result ≤ 16) }
     ensures octets { out.new ≡ carrying code value.now ++ drop result out.old }
     ensures is_value { IsValue value.now }
 {

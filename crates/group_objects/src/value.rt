@@ -14,7 +14,7 @@ const MOST_OCTETS: usize = 14;
 pub struct Value {
     bits: bool,
     size: usize,
-    store: [u8; 14],
+    store: [u8; MOST_OCTETS],
 }
 
 impl Model for Value {
@@ -54,7 +54,7 @@ impl Value {
         ensures none { IsNone result ↔ ((length bytes.now ≡ 0) ⊎ (14 < length bytes.now)) }
     {
         match bytes.len() {
-            1..=14 => Some(Value::of_octets(bytes)),
+            1..=MOST_OCTETS => Some(Value::of_octets(bytes)),
             _ => None,
         }
     }
@@ -63,7 +63,7 @@ impl Value {
         requires { value < 64 }
         ensures { result ≡ bits_value value }
     {
-        let mut store = [0; 14];
+        let mut store = [0; MOST_OCTETS];
         store[0] = value;
         Value {
             bits: true,
@@ -77,7 +77,7 @@ impl Value {
         requires fits { length bytes.now ≤ 14 }
         ensures { result ≡ octets_value bytes.now }
     {
-        let mut store = [0; 14];
+        let mut store = [0; MOST_OCTETS];
         store[..bytes.len()].copy_from_slice(bytes);
         Value {
             bits: false,
