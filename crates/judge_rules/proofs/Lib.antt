@@ -4,3 +4,4 @@ pub mod Judging
 pub mod Channels
 pub mod Keeping
 pub mod Entitling
+pub mod Asking

@@ -215,6 +215,10 @@ unfoldable pub verdict_of : List Row → ℕ → Option (List ℕ) → Telegram 
 verdict_of rows mark asked t =
     verdict_or (on_channel verdict.NoKey (channel_in rows t) (λ c. verdict_on rows mark (number_in asked t) c t)) (first_failing (entry_checks rows asked t))
 
+abbrev pub is_ask : Verdict → Bool
+is_ask (verdict.SyncAsk _ _) = true
+is_ask _ = false
+
 -- one of the three where no check fails
 abbrev pub is_good : Verdict → Bool
 is_good (verdict.Accepted _ _) = true

@@ -4,7 +4,7 @@ ghost use Rattle.secure_apdu.specs.Secure.{bad_secure, HasParts};
 ghost use Rattle.secure_apdu.specs.Sync.{sync_values};
 ghost use Rattle.key_tables.specs.Rows.{key_of};
 ghost use Rattle.judge_rules.specs.Parts.{sync_service, source_of, service_in};
-ghost use Rattle.judge_rules.specs.Checks.{check_payload, check_sender, receiver_may, opened_checks, last_checks, data_checks, good_verdict, verdict_or, first_failing, lane_in, verdict_on, verdict_of, kept_of, kept_on, kept_by, opened_on, opened_by, is_good, IsEntitled};
+ghost use Rattle.judge_rules.specs.Checks.{check_payload, check_sender, receiver_may, opened_checks, last_checks, data_checks, good_verdict, verdict_or, first_failing, lane_in, verdict_on, verdict_of, kept_of, kept_on, kept_by, opened_on, opened_by, is_ask, is_good, IsEntitled};
 
 use crate::data::{data_refusal, service_in};
 use crate::entry::{ANSWER, DATA, Entry, REQUEST, enter};
@@ -28,6 +28,7 @@ pub fn judge(
     ensures keeps { result.keeps ≡ kept_by tables.now kept asked (telegram frame.now) }
     ensures lane { IfSome result.keeps (λ keeps. lane_in tables.now (telegram frame.now) ≡ Some keeps.0) }
     ensures above { IfSome result.keeps (λ keeps. kept < keeps.1) }
+    ensures ask_keeps_nothing { is_ask result.verdict ≡ true → result.keeps ≡ None }
     ensures opened { apdu.new ≡ opened_by tables.now asked (telegram frame.now) }
     ensures entitled { is_good result.verdict ≡ true → IsEntitled tables.now (telegram frame.now) }
     ensures two { is_good result.verdict ≡ true → 2 ≤ length apdu.new }
