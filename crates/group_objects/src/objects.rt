@@ -73,7 +73,7 @@ impl Objects {
         ensures few { IsOk result → length rows.now ≤ most_rows }
         ensures apart { IsOk result → NoneTwice rows.now }
         ensures fault { IfErr result (λ fault. fault ≢ ObjectsFault.NoMemory → objects_fault rows.now ≡ Some fault) }
-        ensures many { result ≡ Err ObjectsFault.TooMany ↔ most_rows < length rows.now }
+        ensures many { (result ≡ Err ObjectsFault.TooMany) ↔ (most_rows < length rows.now) }
         ensures twice { (place : ℕ) → result ≡ Err (ObjectsFault.Twice place) → IsFirstTwice rows.now place }
     {
         if rows.len() > MOST_ROWS {
