@@ -44,7 +44,8 @@ first_twice before (row ∷ rows) =
     if list_any (is_of row.group) before then Some (length before) else first_twice (before ++ row ∷ []) rows
 
 abbrev pub objects_fault : List ObjectRow → Option ObjectsFault
-objects_fault rows = if nat_lt most_rows (length rows) then Some fault.TooMany else option_map fault.Twice (first_twice [] rows)
+objects_fault rows =
+    if nat_lt most_rows (length rows) then Some fault.TooMany else option_map fault.Twice (first_twice [] rows)
 
 -- no two rows are of one group
 abbrev pub NoneTwice : List ObjectRow → Type 0

@@ -44,7 +44,8 @@ pub enum SetFault {
     Size,
 }
 
-/// The objects of a device, each of a group of its own, and the value that each holds now. The form of a value never changes.
+/// The objects of a device, each of a group of its own, and the value that each holds now. The form of a value never
+/// changes.
 ///
 /// A contract sees the rows and the values.
 #[derive(Drop)]
@@ -72,8 +73,8 @@ impl Objects {
         ensures few { IsOk result → length rows.now ≤ most_rows }
         ensures apart { IsOk result → NoneTwice rows.now }
         ensures fault { IfErr result (λ fault. fault ≢ ObjectsFault.NoMemory → objects_fault rows.now ≡ Some fault) }
-        ensures many { result ≡ Err ObjectsFault.TooMany ↔ most_rows < length rows.now }
-        ensures twice { IfErr result (λ fault. (place : ℕ) → fault ≡ ObjectsFault.Twice place → IsFirstTwice rows.now place) }
+        ensures many { (result ≡ Err ObjectsFault.TooMany) ↔ (most_rows < length rows.now) }
+        ensures twice { (place : ℕ) → result ≡ Err (ObjectsFault.Twice place) → IsFirstTwice rows.now place }
     {
         if rows.len() > MOST_ROWS {
             return Err(ObjectsFault::TooMany);
@@ -124,7 +125,7 @@ impl Objects {
         requires there { index < length self.now.rows }
         requires group { IsGroupApdu apdu.now }
         ensures effect { option_map (λ row. accepted row apdu.now) (slice_get self.now.rows index) ≡ Some result }
-        ensures form { IfSome (slice_get self.now.rows index) (λ row. IfOk result (λ effect. KeepsForm row.value effect)) }
+        ensures form { IfSome (slice_get self.now.rows index) (λ row. IfOk result (KeepsForm row.value)) }
         ensures exact { IfSome (slice_get self.now.rows index) (λ row. IsExact row apdu.now result) }
     {
         self.rows[index].accepts(apdu)

@@ -39,9 +39,9 @@ pub enum Effect {
 }
 
 impl ObjectRow {
-    /// What an application PDU of a group does to the object. A read needs the flag `reads`, a write `writes`, and a response
-    /// `updates`; no flag is for any other service. Without the flag the answer is `Flag`, and then, where the PDU has not
-    /// the size of those that carry a value of the object's form, `Size`.
+    /// What an application PDU of a group does to the object. A read needs the flag `reads`, a write `writes`, and a
+    /// response `updates`; no flag is for any other service. Without the flag the answer is `Flag`, and then, where the
+    /// PDU has not the size of those that carry a value of the object's form, `Size`.
     #[tactic(auto, using(crate::proofs::Asking::is_exact))]
     pub fn accepts(&self, apdu: &[u8]) -> Result<Effect, BadObject>
         requires short { length apdu.now < 256 }

@@ -18,9 +18,9 @@ pub enum SendService {
 }
 
 impl SendService {
-    /// Writes the application PDU of this service for an object of this value to the front of `out`, and returns its number of
-    /// octets, 2 to 16 (ISO/IEC 14543-3-1, the services of group values). A read carries no value. Six bits stand in the
-    /// low bits of the second octet, and octets stand after it.
+    /// Writes the application PDU of this service for an object of this value to the front of `out`, and returns its
+    /// number of octets, 2 to 16 (ISO/IEC 14543-3-1, the services of group values). A read carries no value. Six bits
+    /// stand in the low bits of the second octet, and octets stand after it.
     pub fn write_apdu(self, value: &Value, out: &mut [u8]) -> usize
         requires room { 16 ≤ length out.old }
         ensures size { result ≡ length (service_apdu self value.now) }

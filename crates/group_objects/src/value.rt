@@ -7,7 +7,8 @@ use std::marker::Model;
 // The most octets that a value has.
 const MOST_OCTETS: usize = 14;
 
-/// The value of a group object: six bits, or 1 to 14 octets. Its form is which of the two it is, and the number of its octets.
+/// The value of a group object: six bits, or 1 to 14 octets. Its form is which of the two it is, and the number of its
+/// octets.
 ///
 /// A contract sees its octets, and whether they are six bits.
 #[derive(Clone, Copy, Debug, PartialEq, Eq)]
@@ -18,11 +19,9 @@ pub struct Value {
 }
 
 impl Model for Value {
-    ghost use Rattle.std.specs.Prelude.{◌-◌, ◌++◌, length, take, replicate};
-    ghost use Rattle.std.proofs.Common.{arith};
-    ghost use Rattle.std.proofs.lemmas.Grind.{common_steps};
+    ghost use Rattle.std.specs.Prelude.{length, take};
     ghost use Rattle.group_objects.specs.Value.{ObjectValue};
-    ghost use Rattle.group_objects.specs.Padded.{IsPadded, take_back};
+    ghost use Rattle.group_objects.specs.Padded.{IsPadded, padded, take_back};
 
     ghost Value = { ObjectValue };
 
@@ -30,9 +29,9 @@ impl Model for Value {
 
     ghost invariant = { λ v. IsPadded v.bits v.size v.store };
 
-    ghost inverse = { λ d. record { bits = d.is_bits; size = length d.octets; store = d.octets ++ replicate (14 - length d.octets) 0 } };
+    ghost inverse = { λ d. record { bits = d.is_bits; size = length d.octets; store = padded d.octets } };
 
-    ghost inverse_ok = { λ a h. take_back a (length (take a.size a.store)) h (Prim.grind (arith, common_steps, h.room, h.fits)) };
+    ghost inverse_ok = { λ a h. take_back a h };
 }
 
 impl Value {
