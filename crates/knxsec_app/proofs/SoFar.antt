@@ -5,10 +5,10 @@ use Rattle.std.proofs.lemmas.List.{length-drop}
 use Rattle.std.proofs.lemmas.Option.{none-some}
 use Rattle.std.specs.Io.KnownBytes.{append_known}
 use Rattle.knx_base.specs.Files.{Seen}
-use Rattle.knx_base.specs.Reading.{CurrentHas, WhereTold, GoesOn}
+use Rattle.text_lines.specs.Reading.{CurrentHas, WhereTold, GoesOn}
 use Rattle.knx_base.specs.Sink.{AppendsPrefix}
 use Rattle.knx_base.proofs.Printing.{append_known-append, append_known-nil}
-use Rattle.knx_base.proofs.Readers.{has_same, goes_then}
+use Rattle.text_lines.proofs.Readers.{has_same, goes_then}
 use Rattle.key_tables.specs.declared.types.Row.{Row}
 use Rattle.frame_file.specs.declared.fault.RecordFault.{RecordFault}
 use Rattle.frame_file.specs.declared.fault.RecordFault.TheVariants as fault_

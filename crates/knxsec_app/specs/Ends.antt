@@ -2,7 +2,7 @@
 use Rattle.std.specs.Prelude.{◌≡◌, ◌≢◌, ◌⊎◌, ℕ, ◌≤◌, List, length, Option, Some, IsSome, Result, Ok, Err}
 use Rattle.knx_base.specs.Faults.{Rose}
 use Rattle.knx_base.specs.Files.{Seen}
-use Rattle.knx_base.specs.Reading.{WhereTold}
+use Rattle.text_lines.specs.Reading.{WhereTold}
 use Rattle.knxsec_app.specs.declared.status.Status.{Status}
 use Rattle.knxsec_app.specs.declared.status.Status.TheVariants.{Done, Usage, ReadFault, WriteFault, NoMemory}
 use Rattle.knxsec_app.specs.Answer.{Answer, Answers}

@@ -1,7 +1,7 @@
 ghost use Rattle.std.specs.Prelude.{◌≡◌, ◌≢◌, ℕ, List, [], length, IsSome, Some, Ok, IsOk, IsErr, IfOk, OnOk, IfErr, MatchResult};
 ghost use Rattle.std.specs.Option.{ForSome};
 ghost use Rattle.knx_base.specs.Files.{File, Seen, Holds, IsThere};
-ghost use Rattle.knx_base.specs.Reading.{WhereTold};
+ghost use Rattle.text_lines.specs.Reading.{WhereTold};
 ghost use Rattle.key_tables.specs.Build.{build_fault, merged};
 ghost use Rattle.frame_file.specs.Records.{records_of};
 ghost use Rattle.knxsec_app.specs.Answer.{Answers};

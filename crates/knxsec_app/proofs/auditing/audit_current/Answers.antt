@@ -1,6 +1,6 @@
 use Rattle.std.proofs.Common.{rules, arith, ◌+◌, [], ap, sym, subst, ◌∙◌}
 use Rattle.knx_base.specs.Files.{Seen}
-use Rattle.knx_base.proofs.Readers.{goes_then, takes_less}
+use Rattle.text_lines.proofs.Readers.{goes_then, takes_less}
 use Rattle.knxsec_app.specs.Answer.{Answers}
 use Rattle.frame_file.specs.Records.{records_of}
 use Rattle.knxsec_app.specs.Auditing.{frames_answer}

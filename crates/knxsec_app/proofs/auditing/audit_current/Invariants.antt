@@ -1,5 +1,5 @@
 use Rattle.std.proofs.Common.{◌≡◌, ◌≤◌, [], None}
-use Rattle.knx_base.specs.Reading.{GoesOn, to_come}
+use Rattle.text_lines.specs.Reading.{GoesOn, to_come}
 use Rattle.frame_file.specs.Reader.{IsAt}
 use Rattle.knxsec_app.proofs.SoFar.{SoFar}
 use Rattle.knxsec_app.proofs.auditing.audit_current.Given as goal
