@@ -63,13 +63,3 @@ mark_updated old new lane mark updates other =
     ap (λ found. unwrap_or found 0) (sym (lookup_lane new other) ∙ updates other
     ∙ (λ i. cond (lanes_equal lane other i) (Some mark) (lookup_lane old other i)))
     ∙ either_mark (same_lane lane other) mark (lookup (same_lane other) old)
-
-same_where : (same : Bool) (mark : ℕ) → (same ≡ true → mark ≡ 0) → cond same 0 mark ≡ mark
-same_where true mark zero = sym (zero refl)
-same_where false mark zero = refl
-
--- A lane without a mark may be given 0.
-pub mark_added : (old new : AllKept) (lane : Lane) → lookup (same_lane lane) old ≡ None
-    → ((other : Lane) → mark_in new other ≡ (if same_lane lane other then 0 else mark_in old other)) → (other : Lane) → mark_in new other ≡ mark_in old other
-mark_added old new lane absent raised other =
-    raised other ∙ same_where (same_lane lane other) (mark_in old other) (λ same. ap (mark_in old) (sym (same_lane-is lane other same)) ∙ ap (λ found. unwrap_or found 0) absent)

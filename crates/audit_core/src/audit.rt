@@ -1,13 +1,14 @@
 ghost use Rattle.std.specs.Prelude.{◌≡◌, ℕ, ◌+◌, ◌-◌, ◌^◌, ◌<◌, List, [], ◌∷◌, IfOk, OnOk, OnErr};
 ghost use Rattle.knx_base.specs.Faults.{HasCause};
 ghost use Rattle.knx_base.specs.Sink.{Prints};
-ghost use Rattle.audit_core.specs.Audit.{telegram_in, line_of, line_under, kept_of, opened_of};
+ghost use Rattle.sync_service.specs.Open.{asked_in};
+ghost use Rattle.audit_core.specs.Audit.{telegram_in, line_of, apdu_of, opened_of};
 ghost use Rattle.audit_core.specs.State.{AuditState, Knows, Steps};
 ghost use Rattle.audit_core.specs.Text.{total_text};
 
 use crate::Line;
 use crate::judging::judge_next;
-use crate::marks::Marks;
+use crate::past::Past;
 use crate::tally::Tally;
 use key_tables::Tables;
 use knx_base::{Failed, NoMemory, Sink, print_text};
@@ -15,12 +16,12 @@ use secure_apdu::ApduBuf;
 use std::alloc::Global;
 use std::marker::Model;
 
-/// An audit under way: the rows that frames are judged under, the marks that the frames so far left, and the total of their
-/// lines.
+/// An audit under way: the rows that frames are judged under, the marks and the challenges that the frames so far left, and the
+/// total of their lines.
 #[derive(Drop)]
 pub struct Audit {
     tables: Tables,
-    marks: Marks,
+    past: Past,
     tally: Tally,
 }
 
@@ -29,30 +30,29 @@ impl Model for Audit {
 
     ghost Value = { AuditState };
 
-    ghost view = { λ a. record { rows = a.tables; marks = a.marks; total = a.tally } };
+    ghost view = { λ a. record { rows = a.tables; marks = a.past.marks; asked = a.past.asked; total = a.tally } };
 }
 
 impl Audit {
     /// An audit of no frames, under these tables.
-    #[tactic(auto, unfolding(crate::specs::Audit::all_kept, crate::specs::Audit::lines_of))]
     pub fn new(alloc: Global, tables: Tables) -> Audit
         ensures rows { result.rows ≡ tables }
         ensures none { Knows result [] }
     {
         Audit {
             tables,
-            marks: Marks::new(alloc),
+            past: Past::new(alloc),
             tally: Tally::new(),
         }
     }
 
-    /// The line of the next record. Where its code is right `apdu` has the APDU that was opened, else no octets. Memory is taken
-    /// first; where there is none nothing has changed.
+    /// The line of the next record. Where its code is right `apdu` has the APDU that was opened, else no octets. Where there is no
+    /// memory nothing has changed.
     pub fn frame(&mut self, octets: &[u8], apdu: &mut ApduBuf) -> Result<Line, NoMemory>
         requires few { self.old.total.records < 2 ^ 64 - 1 }
         ensures line { (past : List (List ℕ)) → Knows self.old past → IfOk result (λ line. line ≡ line_of self.old.rows past octets.now) }
         ensures knows { (past : List (List ℕ)) → Knows self.old past → OnOk result (Knows self.new (octets.now ∷ past)) }
-        ensures opened { OnOk result (apdu.new ≡ opened_of self.old.rows (telegram_in octets.now)) }
+        ensures opened { (past : List (List ℕ)) → Knows self.old past → OnOk result (apdu.new ≡ apdu_of self.old.rows past octets.now) }
         ensures rows { self.new.rows ≡ self.old.rows }
         ensures counted { OnOk result (self.new.total.records ≡ self.old.total.records + 1) }
         ensures unchanged { OnErr result (self.new ≡ self.old) }
@@ -64,12 +64,12 @@ impl Audit {
     fn step(&mut self, octets: &[u8], apdu: &mut ApduBuf) -> Result<Line, NoMemory>
         requires few { self.old.total.records < 2 ^ 64 - 1 }
         ensures steps { IfOk result (λ line. Steps self.old self.new octets.now line) }
-        ensures opened { OnOk result (apdu.new ≡ opened_of self.old.rows (telegram_in octets.now)) }
+        ensures opened { OnOk result (apdu.new ≡ opened_of self.old.rows (asked_in self.old.asked) (telegram_in octets.now)) }
         ensures unchanged { OnErr result (self.new ≡ self.old) }
         ensures apdu_stays { OnErr result (apdu.new ≡ apdu.old) }
     {
         let index = self.tally.records() + 1;
-        let line = judge_next(&self.tables, &mut self.marks, index, octets, apdu)?;
+        let line = judge_next(&self.tables, &mut self.past, index, octets, apdu)?;
         self.tally.count(&line);
         Ok(line)
     }

@@ -1,7 +1,7 @@
-ghost use Rattle.std.specs.Prelude.{◌≡◌, if◌then◌else◌, IsOk, IfOk, OnOk, OnErr, [], None, IsSome};
+ghost use Rattle.std.specs.Prelude.{◌≡◌, if◌then◌else◌, IsOk, OnErr, []};
 ghost use Rattle.std.specs.Map.{lookup};
 ghost use Rattle.key_tables.specs.declared.types.Lane.{Lane};
-ghost use Rattle.audit_core.specs.Audit.{same_lane};
+ghost use Rattle.audit_core.specs.Audit.{same_lane, mark_under};
 ghost use Rattle.audit_core.specs.Marks.{mark_in};
 
 use key_tables::Lane;
@@ -33,16 +33,13 @@ impl Marks {
         }
     }
 
-    /// The mark of a lane, 0 where it had none. Now it has one, so that to raise it takes no memory.
-    pub(crate) fn reserve(&mut self, lane: Lane) -> Result<Number48, NoMemory>
-        ensures mark { IfOk result (λ mark. mark ≡ mark_in self.old lane) }
-        ensures room { OnOk result (IsSome (lookup (same_lane lane) self.new)) }
-        ensures same { (other : Lane) → mark_in self.new other ≡ mark_in self.old other }
-        ensures unchanged { OnErr result (self.new ≡ self.old) }
+    /// The mark of a lane, 0 where it has none or there is no lane.
+    pub(crate) fn mark(&self, lane: Option<Lane>) -> Number48
+        ensures { result ≡ mark_under (mark_in self.now) lane }
     {
-        match self.find(lane) {
-            Some(mark) => Ok(mark),
-            None => self.add(lane),
+        match lane {
+            Some(lane) => self.find(lane).unwrap_or(zero()),
+            None => zero(),
         }
     }
 
@@ -52,30 +49,9 @@ impl Marks {
         self.kept.get(&lane).copied()
     }
 
-    fn add(&mut self, lane: Lane) -> Result<Number48, NoMemory>
-        requires absent { lookup (same_lane lane) self.old ≡ None }
-        ensures mark { IfOk result (λ mark. mark ≡ 0) }
-        ensures room { OnOk result (IsSome (lookup (same_lane lane) self.new)) }
-        ensures same { (other : Lane) → mark_in self.new other ≡ mark_in self.old other }
-        ensures unchanged { OnErr result (self.new ≡ self.old) }
-    {
-        self.insert(lane, zero())?;
-        Ok(zero())
-    }
-
-    /// Makes the number the mark of a lane that has one.
-    pub(crate) fn raise(&mut self, lane: Lane, number: Number48)
-        requires room { IsSome (lookup (same_lane lane) self.old) }
-        ensures raised { (other : Lane) → mark_in self.new other ≡ (if same_lane lane other then number else mark_in self.old other) }
-    {
-        let _ = self.insert(lane, number);
-    }
-
-    // A lane that has a mark takes no memory.
-    fn insert(&mut self, lane: Lane, number: Number48) -> Result<(), NoMemory>
+    /// Makes the number the mark of a lane.
+    pub(crate) fn raise(&mut self, lane: Lane, number: Number48) -> Result<(), NoMemory>
         ensures raised { IsOk result → (other : Lane) → mark_in self.new other ≡ (if same_lane lane other then number else mark_in self.old other) }
-        ensures room { OnOk result (IsSome (lookup (same_lane lane) self.new)) }
-        ensures absent { OnErr result (lookup (same_lane lane) self.old ≡ None) }
         ensures unchanged { OnErr result (self.new ≡ self.old) }
     {
         match self.kept.insert(lane, number) {
@@ -86,7 +62,7 @@ impl Marks {
 }
 
 #[tactic(auto, unfolding(knx_base::specs::Number::number_at))]
-pub(crate) fn zero() -> Number48
+fn zero() -> Number48
     ensures { result ≡ 0 }
 {
     Number48::from_bytes([0; 6])

@@ -23,6 +23,17 @@ const REPETITION: &str = "29009ce011070a030e03f1100000000000050d5858028267";
 /// The same under number 6, readable.
 const READABLE: &str = "2900bce011070a030e03f1000000000000060081615ae14f";
 
+const DEVICE: &[u8] = b"group 1/2/3 000102030405060708090a0b0c0d0e0f conf
+role 1/2/3 1.1.7 command
+tool 1.1.9 000102030405060708090a0b0c0d0e0f
+role tool:1.1.9 1.1.7 manage";
+
+/// From 1.1.7 to 1.1.9 under number 2, a request of a synchronisation with the challenge 010203040506.
+const REQUEST: &str = "29003c60110711091203f192000000000002fd82b40668d40a240653";
+
+/// Its answer under number 1, which shows the challenge XOR that and tells that 500 was kept.
+const ANSWER: &str = "29003c60110911071803f193010203040507447c61778fc4ec5016de976dd7fdfa50";
+
 // Prints the line of the next frame.
 fn print_next(alloc: Global, audit: &mut Audit, frame: &str, out: &mut MemSink) -> Result<(), Fail>
     requires few { audit.old.total.records < 2 ^ 64 - 1 }
@@ -137,10 +148,7 @@ total 11 accepted 0 sync 0 alarms 3\n";
 
 #[test]
 fn rows_say_whose_frames_are_judged(rt: HostRuntime) -> Result<(), Fail> {
-    // From 1.1.7 to 1.1.9 under number 2, a request of synchronisation; and an answer to it that nobody waits for.
-    let request = "29003c60110711091203f192000000000002fd82b40668d40a240653";
-    let answer = "29003c60110911071803f193010203040507447c61778fc4ec5016de976dd7fdfa50";
-    let rows: [(&[u8], &str, &str, u64); 4] = [
+    let rows: [(&[u8], &str, &str, u64); 2] = [
         (
             b"role 1/2/3 any command",
             TELEGRAM,
@@ -153,23 +161,47 @@ fn rows_say_whose_frames_are_judged(rt: HostRuntime) -> Result<(), Fail> {
             "1 1.1.7 > 1/2/3 sender !\ntotal 1 accepted 0 sync 0 alarms 1\n",
             1,
         ),
-        (
-            b"tool 1.1.9 000102030405060708090a0b0c0d0e0f\nrole tool:1.1.9 1.1.7 manage",
-            request,
-            "1 1.1.7 > 1.1.9 sync-ask number 2 challenge 010203040506\ntotal 1 accepted 0 sync 1 alarms 0\n",
-            0,
-        ),
-        (
-            b"tool 1.1.9 000102030405060708090a0b0c0d0e0f\nrole tool:1.1.9 1.1.7 manage",
-            answer,
-            "1 1.1.9 > 1.1.7 no-pending\ntotal 1 accepted 0 sync 0 alarms 0\n",
-            0,
-        ),
     ];
     for (rows, frame, told, alarms) in rows {
         let (out, count) = audited(rt.alloc(), rows, &[frame])?;
         assert_eq!(rt; out.bytes(), told.as_bytes());
         assert_eq!(rt; count, alarms);
+    }
+    Ok(())
+}
+
+#[test]
+fn an_answer_is_taken_once_after_its_request(rt: HostRuntime) -> Result<(), Fail> {
+    let cases: [(&[&str], &str); 4] = [
+        (
+            &[REQUEST, ANSWER],
+            "1 1.1.7 > 1.1.9 sync-ask number 2 challenge 010203040506
+2 1.1.9 > 1.1.7 sync-answer number 1 kept 500
+total 2 accepted 0 sync 2 alarms 0\n",
+        ),
+        (
+            &[ANSWER],
+            "1 1.1.9 > 1.1.7 no-pending\ntotal 1 accepted 0 sync 0 alarms 0\n",
+        ),
+        (
+            &[REQUEST, ANSWER, ANSWER],
+            "1 1.1.7 > 1.1.9 sync-ask number 2 challenge 010203040506
+2 1.1.9 > 1.1.7 sync-answer number 1 kept 500
+3 1.1.9 > 1.1.7 no-pending
+total 3 accepted 0 sync 2 alarms 0\n",
+        ),
+        (
+            &[REQUEST, ANSWER, REQUEST, ANSWER],
+            "1 1.1.7 > 1.1.9 sync-ask number 2 challenge 010203040506
+2 1.1.9 > 1.1.7 sync-answer number 1 kept 500
+3 1.1.7 > 1.1.9 sync-ask number 2 challenge 010203040506
+4 1.1.9 > 1.1.7 sync-answer number 1 kept 500
+total 4 accepted 0 sync 4 alarms 0\n",
+        ),
+    ];
+    for (frames, told) in cases {
+        let (out, _) = audited(rt.alloc(), DEVICE, frames)?;
+        assert_eq!(rt; out.bytes(), told.as_bytes());
     }
     Ok(())
 }

@@ -4,8 +4,8 @@ use Rattle.std.proofs.lemmas.Bool.{false≢true}
 use Rattle.audit_core.specs.Audit.{same_lane}
 use Rattle.audit_core.specs.Marks.{mark_in}
 use Rattle.audit_core.proofs.Lanes.{mark_updated}
-use Rattle.audit_core.proofs.marks.Marks.insert.Goals.{in-Ok, in-Err}
-use Rattle.audit_core.proofs.marks.Marks.insert.Goals as goal
+use Rattle.audit_core.proofs.marks.Marks.raise.Goals.{in-Ok, in-Err}
+use Rattle.audit_core.proofs.marks.Marks.raise.Goals as goal
 
 pub returns-clause-raised : goal.returns-clause-raised
 returns-clause-raised c ok other = elim c.match-insert.branch [
