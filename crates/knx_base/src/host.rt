@@ -12,6 +12,9 @@ use std::io::{self, ErrorKind, Print, Read};
 use std::marker::Model;
 use std::{fs, rt};
 
+#[cfg(test)]
+mod tests;
+
 /// Standard output, or whatever the runtime prints to. It tells no octets.
 ///
 /// A contract sees it as its count of faults.

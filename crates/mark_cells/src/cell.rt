@@ -48,9 +48,9 @@ pub fn read_cell<M: Nvm>(memory: &mut M, at: usize) -> Result<Number48, CellFaul
     ensures reads { Reads (memory_fault result)
         (M.state memory.old) (M.state memory.new) (M.images memory.old) (M.images memory.new) }
 {
-    let mut cell = [0u8; CELL_SIZE];
-    memory.read(at, &mut cell)?;
-    match cell_reading(&cell) {
+    let mut octets = [0u8; CELL_SIZE];
+    memory.read(at, &mut octets)?;
+    match cell_reading(&octets) {
         Some(value) => Ok(value),
         None => Err(CellFault::Unformatted),
     }

@@ -86,9 +86,9 @@ impl SimNvm {
         self.powered = false;
     }
 
-    /// Power is on.
+    /// Whether power is on.
     pub fn is_on(&self) -> bool
-        ensures on { result ≡ (sim_state self.now).powered }
+        ensures power { result ≡ (sim_state self.now).powered }
     {
         self.powered
     }
