@@ -1,20 +1,19 @@
 -- Raises in turn over any image that restores numbers, and what a plan makes of them.
-use Rattle.std.proofs.Common.{◌≡◌, ◌≢◌, ◌⊎◌, ℕ, ◌+◌, ◌^◌, ◌<◌, ◌≤◌, zero, suc, true, List, [], ◌∷◌, ◌++◌, length, Option, None, Some, refl, sym, ap, subst, ◌∙◌, inl, inr, arith}
+use Rattle.std.proofs.Common.{◌≡◌, ◌⊎◌, ℕ, ◌+◌, ◌<◌, ◌≤◌, zero, suc, List, [], ◌∷◌, ◌++◌, length, Option, None, Some, refl, sym, ap, subst, ◌∙◌, inl, inr, arith}
 use Rattle.std.specs.Prelude.{slice_index, unwrap_or, IsSome}
 use Rattle.std.specs.List.{All}
 use Rattle.std.proofs.lemmas.List.Elements.{All-nil, All-head, All-tail, All-append}
-use Rattle.nvm_model.specs.Plan.{Struck, strike}
+use Rattle.nvm_model.specs.Plan.{strike}
 use Rattle.nvm_model.specs.Write.{Write, FitsIn, put, written, Reached}
-use Rattle.nvm_model.specs.declared.plan.Plan.{Plan}
 use Rattle.nvm_model.proofs.Lists.{written-append, length-put}
 use Rattle.seq_store.specs.Keeps.{MayRun, KeepsNumbers, HasItsNumbers}
-use Rattle.seq_store.specs.Laws.{Ready, Restores, restore, restore_reserved, MayRaise, HasRaiseLaws}
-use Rattle.seq_store.specs.Layout.{most_lanes, store_size, value_of, raise_writes}
+use Rattle.seq_store.specs.Laws.{Ready, restore, restore_reserved, MayRaise, HasRaiseLaws}
+use Rattle.seq_store.specs.Layout.{most_lanes, store_size, raise_writes}
 use Rattle.seq_store.specs.Runs.{Numbers, RestoresNumbers, marks_from, numbers_in, Raise, Reserve, Mark, value_raised, number_raised, IsAbove, AreAbove, after_raise, after_raises, writes_of, RestoresSome}
 use Rattle.seq_store.proofs.Strikes.{strike_reached, strike_whole}
 use Rattle.seq_store.proofs.Cells.{raises_whole}
 use Rattle.seq_store.proofs.Starts.{restores_ready}
-use Rattle.seq_store.proofs.Restored.{InRange, value_in_range, restores_raised, restores_some, numbers_restored}
+use Rattle.seq_store.proofs.Restored.{InRange, restores_raised, restores_some, numbers_restored}
 use Rattle.seq_store.proofs.Running.{same_lanes, some_now}
 
 in_range : (r : Raise) (numbers : Numbers) → IsAbove r numbers → InRange r numbers

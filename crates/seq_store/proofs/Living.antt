@@ -1,15 +1,13 @@
 -- No number is drawn twice in the life of a memory.
-use Rattle.std.proofs.Common.{◌≡◌, ℕ, ◌+◌, ◌-◌, ◌^◌, ◌<◌, ◌≤◌, max, min, Bool, true, false, cond, List, [], ◌∷◌, length, Option, None, Some, refl, sym, ap, subst, ◌∙◌, inl, inr, arith}
-use Rattle.std.specs.Prelude.{◌&&◌, nat_lt, nat_le, IsSome, slice_index}
-use Rattle.std.proofs.lemmas.Grind.{common_steps}
+use Rattle.std.proofs.Common.{◌≡◌, ℕ, ◌+◌, ◌-◌, ◌^◌, ◌<◌, ◌≤◌, min, Bool, true, false, cond, List, [], ◌∷◌, length, Option, None, Some, refl, sym, ap, subst, ◌∙◌, inl, inr, arith}
+use Rattle.std.specs.Prelude.{◌&&◌, nat_lt}
 use Rattle.std.proofs.lemmas.Bool.Decides.{nat_tests}
-use Rattle.std.proofs.lemmas.Bool.{cases_order}
 use Rattle.nvm_model.specs.Write.{written, Reached}
 use Rattle.seq_store.specs.Draws.{reservation_for}
-use Rattle.seq_store.specs.Keeps.{MayRun, KeepsNumbers}
-use Rattle.seq_store.specs.Laws.{Ready, Restores, restore_reserved}
+use Rattle.seq_store.specs.Keeps.{KeepsNumbers}
+use Rattle.seq_store.specs.Laws.{Ready}
 use Rattle.seq_store.specs.Layout.{most_lanes}
-use Rattle.seq_store.specs.Lives.{Running, started, Call, Draw, RaiseMark, RaiseNext, IsCall, call_raises, next_after, after_call, Event, Start, Made, Stopped, AreEvents, numbers_drawn, AscendFrom, IsLife, NeverTwice}
+use Rattle.seq_store.specs.Lives.{Running, started, Call, Draw, RaiseMark, RaiseNext, IsCall, call_raises, next_after, after_call, Event, Start, Made, Stopped, AreEvents, numbers_drawn, AscendFrom, NeverTwice}
 use Rattle.seq_store.specs.Runs.{Numbers, RestoresNumbers, numbers_in, Raise, Reserve, Mark, IsAbove, AreAbove, after_raise, after_raises, writes_of, RestoresSome, draw_raises}
 use Rattle.seq_store.proofs.Keeping.{keeps, has_its_numbers}
 use Rattle.seq_store.proofs.Restored.{numbers_restored}

@@ -1,15 +1,13 @@
 -- A raise in a memory that a store agrees with, by the laws of the layout alone.
-use Rattle.std.proofs.Common.{◌≡◌, ◌≢◌, ℕ, ◌+◌, ◌^◌, ◌-◌, ◌<◌, ◌≤◌, min, Bool, true, false, cond, leb-true, leb-false, List, length, Option, None, Some, refl, sym, ap, subst, ◌∙◌, inl, inr, arith}
+use Rattle.std.proofs.Common.{◌≡◌, ℕ, ◌+◌, ◌^◌, ◌-◌, ◌<◌, ◌≤◌, min, Bool, true, false, cond, leb-true, leb-false, List, length, Option, None, Some, refl, sym, ap, subst, ◌∙◌, inl, inr, arith}
 use Rattle.std.specs.Prelude.{nat_le, slice_index, slice_set}
-use Rattle.std.proofs.lemmas.Bool.{cases_order}
-use Rattle.std.proofs.lemmas.Grind.{common_steps}
 use Rattle.nvm_model.specs.Nvm.{State, Leaves, Makes}
 use Rattle.nvm_model.specs.Write.{written}
 use Rattle.nvm_model.specs.declared.fault.NvmFault.{NvmFault}
 use Rattle.nvm_model.proofs.Runs.{makes_reached}
 use Rattle.seq_store.specs.Agrees.{Agrees}
 use Rattle.seq_store.specs.Draws.{reservation_for}
-use Rattle.seq_store.specs.Layout.{most_lanes, store_size, value_of, raise_writes}
+use Rattle.seq_store.specs.Layout.{most_lanes, value_of, raise_writes}
 use Rattle.seq_store.specs.Laws.{Ready, IsRaised, MayRaise, HasRaiseLaws, Raises}
 use Rattle.seq_store.proofs.Cells.{raises_whole}
 use Rattle.seq_store.proofs.Restored.{restores_marked, restores_reserved}

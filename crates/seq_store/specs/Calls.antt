@@ -1,5 +1,5 @@
 -- What the calls of a store do, by themes.
-use Rattle.std.specs.Prelude.{◌≡◌, ◌≢◌, ◌↔◌, ℕ, ◌+◌, ◌-◌, ◌^◌, ◌<◌, ◌≤◌, true, List, length, Result, Err, Option, Some, IsOk, IsSome, IfOk, OnOk, OnErr}
+use Rattle.std.specs.Prelude.{◌≡◌, ◌≢◌, ◌↔◌, ℕ, ◌+◌, ◌-◌, ◌^◌, ◌<◌, ◌≤◌, true, List, Result, Err, Option, Some, IsOk, IsSome, IfOk, OnOk, OnErr}
 use Rattle.knx_base.specs.Faults.{Rose}
 use Rattle.nvm_model.specs.Nvm.{State, HasNvmCause, Reads}
 use Rattle.nvm_model.specs.declared.fault.NvmFault.{NvmFault}

@@ -1,5 +1,5 @@
 -- What raises in turn keep of the numbers, over every image that restores some.
-use Rattle.std.specs.Prelude.{◌≡◌, ◌≤◌, ℕ, List, length, Option, None}
+use Rattle.std.specs.Prelude.{◌≡◌, ◌≤◌, ℕ, List, length, None}
 use Rattle.nvm_model.specs.Plan.{Struck, strike}
 use Rattle.nvm_model.specs.Write.{written, Reached}
 use Rattle.nvm_model.specs.declared.plan.Plan.{Plan}

@@ -1,7 +1,7 @@
 ghost use Rattle.std.specs.Prelude.{◌≡◌, ◌≤◌, true, length, IfOk};
 ghost use Rattle.seq_store.specs.Store.{store_state, lanes_of};
 
-use crate::{DrawFault, SeqStore, StoreFault, format_store, stored_value};
+use crate::{DrawFault, SeqStore, StoreFault, format_store, store_size, stored_value};
 use knx_base::Number48;
 use nvm_model::trial::FailingNvm;
 use nvm_model::{Nvm, NvmFault, SimNvm};
@@ -187,5 +187,29 @@ fn the_last_number_is_2_to_the_48_less_1(rt: HostRuntime) -> Result<(), Fail> {
         assert_eq!(rt; store.draw().map(|number| number.get()), want);
     }
     assert!(rt; store.is_sound());
+    Ok(())
+}
+
+// The most lanes that a memory may have.
+#[test]
+fn a_store_of_64_lanes_keeps_the_last_mark(rt: HostRuntime) -> Result<(), Fail> {
+    let zero = number(0)?;
+    let nine = number(9)?;
+    let mut memory = SimNvm::new(rt.alloc(), store_size(64))?;
+    assert!(rt; format_store(&mut memory, zero, &[zero; 64]).is_ok());
+    let Ok(mut store) = SeqStore::start(rt.alloc(), 64, memory) else {
+        return Err(Fail::from("not started"));
+    };
+    if !store.is_sound() || store.mark(63) >= nine {
+        return Err(Fail::from("not to be raised"));
+    }
+    assert_eq!(rt; store.raise(63, nine), Ok(()));
+    let Ok(store) = SeqStore::start(rt.alloc(), 64, store.into_memory()) else {
+        return Err(Fail::from("not started again"));
+    };
+    for (lane, mark) in [(0, zero), (62, zero), (63, nine)] {
+        assert_eq!(rt; store.mark(lane), mark, "lane {lane}");
+    }
+    assert_eq!(rt; store.next(), 1);
     Ok(())
 }
