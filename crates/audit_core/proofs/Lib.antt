@@ -1,3 +1,4 @@
 pub mod Knowing
 pub mod Lanes
 pub mod Exchanging
+pub mod Exchanges

@@ -2,3 +2,4 @@ pub mod Audit
 pub mod Marks
 pub mod State
 pub mod Text
+pub mod Exchange

@@ -4,6 +4,7 @@
 
 mod audit;
 mod judging;
+mod law;
 mod line;
 mod marks;
 mod past;
@@ -13,5 +14,6 @@ mod tally;
 mod tests;
 
 pub use audit::Audit;
+pub use law::exchange_is_judged;
 pub use line::{Addresses, Line};
 pub use print::print_line;

@@ -18,7 +18,7 @@ use Rattle.frame_file.specs.Next.{RecordsState, TakesRecord, Ends}
 use Rattle.frame_file.specs.Reader.{ReaderState, Refuses, left}
 use Rattle.frame_file.specs.Records.{RecordList, with_record, no_records, refused_by, records_of}
 use Rattle.audit_core.specs.declared.line.Line.{Line}
-use Rattle.audit_core.specs.Audit.{telegram_in, opened_of, line_of, total_of}
+use Rattle.audit_core.specs.Audit.{apdu_of, line_of, total_of}
 use Rattle.audit_core.specs.State.{AuditState, Knows}
 use Rattle.audit_core.specs.Text.{line_text, total_text}
 use Rattle.knxsec_app.specs.declared.status.Status.{Status}
@@ -76,14 +76,14 @@ pub goes_on : (start now later : Seen) (rows : List Row) (audit next : AuditStat
     → WhereTold now (λ all. left now records all ≡ with_record octets (left later following all))
     → ((past : List (List ℕ)) → Knows audit past → (line ≡ line_of audit.rows past octets) × Knows next (octets ∷ past))
     → next.rows ≡ audit.rows
-    → apdu ≡ opened_of audit.rows (telegram_in octets)
+    → ((past : List (List ℕ)) → Knows audit past → apdu ≡ apdu_of audit.rows past octets)
     → time ≡ None
     → (handed : List ℕ) × (new ≡ append_known mid handed) × (handed ++ kept ≡ held ++ line_text line time apdu)
     → SoFar start later rows next following kept old new
 goes_on start now later rows audit next records following held kept old mid new octets apdu time line so_far goes taken knows rows_stay opened untimed passed =
     let told = knows so_far.past so_far.knows in
     let is_line : line_text line time apdu ≡ record_line rows so_far.past octets =
-    (λ i. line_text (told.0 i) (untimed i) (opened i)) ∙ ap (λ rows. record_line rows so_far.past octets) so_far.rows_are in
+    (λ i. line_text (told.0 i) (untimed i) (opened so_far.past so_far.knows i)) ∙ ap (λ rows. record_line rows so_far.past octets) so_far.rows_are in
     record {
       past = octets ∷ so_far.past;
       knows = told.1;
@@ -142,14 +142,14 @@ pub stops_at_line : (start now later : Seen) (rows : List Row) (audit next : Aud
     → GoesOn start now [] records.held 0
     → WhereTold now (λ all. left now records all ≡ with_record octets (left later following all))
     → ((past : List (List ℕ)) → Knows audit past → (line ≡ line_of audit.rows past octets) × Knows next (octets ∷ past))
-    → apdu ≡ opened_of audit.rows (telegram_in octets)
+    → ((past : List (List ℕ)) → Knows audit past → apdu ≡ apdu_of audit.rows past octets)
     → time ≡ None
     → AppendsPrefix mid new (held ++ line_text line time apdu)
     → WhereTold start (λ all. AppendsPrefix old new (frames_answer rows [] (records_of all)).report)
 stops_at_line start now later rows audit next records following held old mid new octets apdu time line so_far goes taken knows opened untimed begun all has =
     let told = knows so_far.past so_far.knows in
     let is_line : line_text line time apdu ≡ record_line rows so_far.past octets =
-    (λ i. line_text (told.0 i) (untimed i) (opened i)) ∙ ap (λ rows. record_line rows so_far.past octets) so_far.rows_are in
+    (λ i. line_text (told.0 i) (untimed i) (opened so_far.past so_far.knows i)) ∙ ap (λ rows. record_line rows so_far.past octets) so_far.rows_are in
     let rest = frames_answer rows (octets ∷ so_far.past) (left later following all) in
     let is_left : frames_answer rows so_far.past (left now records all) ≡ after (record_line rows so_far.past octets) rest =
     ap (frames_answer rows so_far.past) (taken all (has_same start now [] records.held 0 goes all has)) ∙ one_more rows so_far.past octets (left later following all) in

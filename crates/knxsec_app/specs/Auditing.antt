@@ -12,7 +12,7 @@ use Rattle.keyring_reader.specs.declared.fault.KeyringFault.{KeyringFault}
 use Rattle.keyring_reader.specs.Keyring.{keyring_of}
 use Rattle.frame_file.specs.declared.fault.RecordFault.{RecordFault}
 use Rattle.frame_file.specs.Records.{RecordList, records_of}
-use Rattle.audit_core.specs.Audit.{Total, telegram_in, opened_of, line_of, total_of}
+use Rattle.audit_core.specs.Audit.{Total, apdu_of, line_of, total_of}
 use Rattle.audit_core.specs.Text.{line_text, total_text}
 use Rattle.knxsec_app.specs.declared.status.Status.{Status}
 use Rattle.knxsec_app.specs.declared.status.Status.TheVariants.{Done, Alarm, ReadFault, NoMemory}
@@ -76,7 +76,7 @@ installation under tables = do
 
 -- the line of a record after these, of which the latest comes first
 abbrev pub record_line : List Row → List (List ℕ) → List ℕ → List ℕ
-record_line rows past octets = line_text (line_of rows past octets) None (opened_of rows (telegram_in octets))
+record_line rows past octets = line_text (line_of rows past octets) None (apdu_of rows past octets)
 
 abbrev pub total_status : Total → Status
 total_status total = if total.alarms == 0 then Done else Alarm
