@@ -1,14 +1,12 @@
 -- The marks of lanes in a map.
-use Rattle.std.proofs.Common.{◌≡◌, ℕ, ◌&&◌, Bool, true, false, cond, nat_lt, Ordering, Less, Equal, Greater, arith, List, [], ◌∷◌, Option, Some, None, refl, sym, ap, ◌∙◌}
-use Rattle.std.specs.Prelude.{◌==◌, unwrap_or, if◌then◌else◌}
+use Rattle.std.proofs.Common.{◌≡◌, ℕ, Bool, true, false, cond, List, [], ◌∷◌, Option, Some, refl, sym, ap, ◌∙◌}
+use Rattle.std.specs.Prelude.{unwrap_or, if◌then◌else◌}
 use Rattle.std.specs.Map.{lookup}
-use Rattle.std.specs.Ordering.{nat_cmp, ordering_then, is_eq}
-use Rattle.std.proofs.lemmas.Bool.Decides.{Decides-eqb, nat_tests}
+use Rattle.std.specs.Ordering.{is_eq}
 use Rattle.key_tables.specs.declared.types.Lane.{Lane}
-use Rattle.key_tables.specs.declared.types.Lane.TheVariants as lane
 use Rattle.key_tables.specs.contracts.types.LaneOrd.TheImpl.{cmp-value}
 use Rattle.key_tables.specs.Lanes.{same_lane}
-use Rattle.key_tables.proofs.LaneOrder.{same_lane-is, lanes_equal}
+use Rattle.key_tables.proofs.LaneOrder.{lanes_equal}
 use Rattle.audit_core.specs.Audit.{AllKept}
 use Rattle.audit_core.specs.Marks.{mark_in}
 
