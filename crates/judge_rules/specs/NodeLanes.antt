@@ -9,7 +9,7 @@ use Rattle.key_tables.specs.Lanes.{has_lane, is_to, lanes_of}
 use Rattle.judge_rules.specs.Parts.{is_group}
 use Rattle.judge_rules.specs.Checks.{kept_by}
 
--- the number that is kept of a telegram to the node, or to one of these groups, under any mark and with any challenge open
+-- the number that is kept of a telegram to the node, or to one of these groups, under any mark and any open challenge
 abbrev pub KeptOnItsLanes : List Row → IndAddr → List GroupAddr → Type 0
 KeptOnItsLanes rows node groups =
     (mark : ℕ) (asked : Option (List ℕ)) (t : Telegram) (kept : Lane × ℕ)

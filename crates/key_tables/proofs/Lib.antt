@@ -9,3 +9,4 @@ pub mod LaneOrder
 pub mod NamedLanes
 pub mod SortedLanes
 pub mod SendersLanes
+mod TextOnce

@@ -33,7 +33,7 @@ one_row : (said : Option Row) → option_to_list said ≡ filter_map (λ o. o) (
 one_row None = refl
 one_row (Some row) = refl
 
-one_more_line : (done : List (List ℕ)) (line : List ℕ) → rows_of (done ++ line ∷ []) ≡ rows_of done ++ option_to_list (row_said (line_says line))
+pub one_more_line : (done : List (List ℕ)) (line : List ℕ) → rows_of (done ++ line ∷ []) ≡ rows_of done ++ option_to_list (row_said (line_says line))
 one_more_line done line =
     filter_map-append (λ l. row_said (line_says l)) done (line ∷ [])
     ∙ ap (λ rows. rows_of done ++ rows) (sym (one_row (row_said (line_says line))))

@@ -31,7 +31,8 @@ abbrev pub lane_cmp : Lane → Lane → Ordering
 lane_cmp (lane.Run sender) (lane.Run other) = nat_cmp sender.0 other.0
 lane_cmp (lane.Run _) _ = Less
 lane_cmp (lane.Tool _ _) (lane.Run _) = Greater
-lane_cmp (lane.Tool device sender) (lane.Tool other from) = ordering_then (nat_cmp device.0 other.0) (nat_cmp sender.0 from.0)
+lane_cmp (lane.Tool device sender) (lane.Tool other from) =
+    ordering_then (nat_cmp device.0 other.0) (nat_cmp sender.0 from.0)
 
 -- ---- in words
 
@@ -40,11 +41,12 @@ abbrev pub is_any : Row → Bool
 is_any (row.Role _ None _) = true
 is_any _ = false
 
--- A sender with a role row on a group of these has a lane. Where the node has a tool key, so have on its channel the node
--- itself and each sender with a role row there. Where it has none, so has each device with a tool key, on its own channel,
--- where the node has a role row there.
+-- A sender with a role row on a group of these has a lane. Where the node has a tool key, so have on its channel the
+-- node itself and each sender with a role row there. Where it has none, so has each device with a tool key, on its own
+-- channel, where the node has a role row there.
 abbrev pub is_lane_of : List Row → IndAddr → List GroupAddr → Lane → Bool
-is_lane_of rows node groups (lane.Run sender) = list_any (λ group. has_role rows (channel.Group group) (Some sender)) groups
+is_lane_of rows node groups (lane.Run sender) =
+    list_any (λ group. has_role rows (channel.Group group) (Some sender)) groups
 is_lane_of rows node groups (lane.Tool device sender) =
     if has_key rows (channel.Tool node)
     then device.0 == node.0 && (sender.0 == node.0 || has_role rows (channel.Tool node) (Some sender))
@@ -63,12 +65,14 @@ is_group_of groups group = list_any (λ other. other.0 == group.0) groups
 
 -- the lane of a sender to a group of these
 abbrev pub group_lane : List GroupAddr → Row → Option Lane
-group_lane groups (row.Role (channel.Group group) (Some sender) _) = if is_group_of groups group then Some (lane.Run sender) else None
+group_lane groups (row.Role (channel.Group group) (Some sender) _) =
+    if is_group_of groups group then Some (lane.Run sender) else None
 group_lane groups _ = None
 
 -- the lane of a sender on the node's channel
 abbrev pub own_lane : IndAddr → Row → Option Lane
-own_lane node (row.Role (channel.Tool device) (Some sender) _) = if node.0 == device.0 then Some (lane.Tool node sender) else None
+own_lane node (row.Role (channel.Tool device) (Some sender) _) =
+    if node.0 == device.0 then Some (lane.Tool node sender) else None
 own_lane node _ = None
 
 -- the lane of a device that has a key and on whose channel the node has a role
@@ -90,7 +94,8 @@ named_lanes rows node groups = filter_map (group_lane groups) rows ++ tool_lanes
 -- with the lane at its place in the order, unless it stands there
 abbrev pub with_lane : Lane → List Lane → List Lane
 with_lane lane [] = lane ∷ []
-with_lane lane (other ∷ lanes) = match_ordering (lane_cmp lane other) (lane ∷ other ∷ lanes) (other ∷ lanes) (other ∷ with_lane lane lanes)
+with_lane lane (other ∷ lanes) =
+    match_ordering (lane_cmp lane other) (lane ∷ other ∷ lanes) (other ∷ lanes) (other ∷ with_lane lane lanes)
 
 abbrev pub in_order : List Lane → List Lane
 in_order [] = []
@@ -111,8 +116,8 @@ abbrev pub is_to : IndAddr → List GroupAddr → Bool → ℕ → Bool
 is_to node groups true destination = is_group_of groups (record { 0 = destination })
 is_to node groups false destination = destination == node.0
 
--- On every channel that a telegram to the node, or to one of its groups, can have, a sender with a role has a lane, where
--- the destination may receive there.
+-- On every channel that a telegram to the node, or to one of its groups, can have, a sender with a role has a lane,
+-- where the destination may receive there.
 abbrev pub SendersHaveLanes : List Row → IndAddr → List GroupAddr → Type 0
 SendersHaveLanes rows node groups =
     (group tool : Bool) (source : IndAddr) (destination : ℕ) (channel : Channel)

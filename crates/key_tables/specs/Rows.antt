@@ -122,11 +122,12 @@ channel_of rows false true source destination =
     option_or (keyed rows (channel.Tool (record { 0 = destination }))) (keyed rows (channel.Tool source))
 channel_of rows _ _ source destination = None
 
--- what a channel asks of the destination: a device's channel is the destination's own, or the destination has a role on it
+-- what a channel asks of the destination: a device's channel is its own, or it has a role on it
 abbrev pub receiver_may : List Row → ℕ → Channel → Bool
 receiver_may rows destination (channel.Group _) = true
 receiver_may rows destination (channel.Tool device) =
-    is_some (key_of rows (channel.Tool (record { 0 = destination }))) || is_some (role_of rows (channel.Tool device) (record { 0 = destination }))
+    is_some (key_of rows (channel.Tool (record { 0 = destination })))
+    || is_some (role_of rows (channel.Tool device) (record { 0 = destination }))
 
 -- the lane of a sender on a channel
 abbrev pub lane_of : Channel → IndAddr → Lane

@@ -25,7 +25,7 @@ use Rattle.key_tables.specs.declared.faults.BuildFault.TheVariants as build
 use Rattle.key_tables.specs.declared.faults.TablesFault.{TablesFault}
 use Rattle.key_tables.specs.declared.faults.TablesFault.TheVariants.{Line, Twice, TooMany, NoMemory}
 use Rattle.key_tables.specs.First.{first_of}
-use Rattle.key_tables.specs.Build.{row_fault}
+use Rattle.key_tables.specs.Build.{row_fault, NoneTwice}
 
 -- ---- words
 
@@ -190,6 +190,10 @@ unless (Some fault) rows = Err fault
 -- the rows of a text, or the fault of its first refused line
 unfoldable pub tables_of : List ℕ → Result (List Row) TablesFault
 tables_of text = unless (first_of line_fault [] (lines text)) (rows_of (lines text))
+
+-- no row of a text that is tables says again what another of them says
+abbrev pub SaysNothingTwice : List ℕ → Type 0
+SaysNothingTwice text = (rows : List Row) → tables_of text ≡ Ok rows → NoneTwice rows
 
 -- it is this fault that the text has, or memory was wanting
 abbrev pub IsTextFault : TablesFault → Result (List Row) TablesFault → Type 0

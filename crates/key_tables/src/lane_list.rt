@@ -8,7 +8,8 @@ use knx_base::{GroupAddr, IndAddr, NoMemory};
 use std::alloc::{AllocError, Global};
 use std::marker::Model;
 
-/// The lanes of a node, in their order: those of groups by their sender, and after them those of devices by device and sender.
+/// The lanes of a node, in their order: those of groups by their sender, and after them those of devices by device and
+/// sender.
 ///
 /// A contract sees them as their list.
 #[derive(Drop)]
@@ -50,10 +51,10 @@ fn place_in(lanes: &[Lane], lane: Lane) -> Option<usize>
     lanes.iter().position(|other| *other == lane)
 }
 
-/// The lanes on which a node keeps numbers, where it has objects for these groups. They are, in this order: one for each sender
-/// with a role row on one of the groups, ascending; then, where the node has a tool key, one for itself and for each sender
-/// with a role row on its channel, ascending; where it has none, one for each device with a tool key on whose channel the
-/// node has a role row, ascending. The rows name every sender.
+/// The lanes on which a node keeps numbers, where it has objects for these groups. They are in this order: one for each
+/// sender with a role row on one of the groups, ascending; then, where the node has a tool key, one for itself and for
+/// each sender with a role row on its channel, ascending; where it has none, one for each device with a tool key on
+/// whose channel the node has a role row, ascending. The rows name every sender.
 pub fn lanes(
     alloc: Global,
     rows: &[Row],

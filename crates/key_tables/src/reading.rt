@@ -1,7 +1,7 @@
 ghost use Rattle.std.specs.Prelude.{◌≡◌, ◌∷◌, [], Some, None, Ok, IfOk, IfErr, ◌++◌, IsOk, OnOk, MatchResult, Err};
 ghost use Rattle.std.specs.Option.{option_to_list};
 ghost use Rattle.key_tables.specs.Text.{group_named, device_named, key_named, level_named, role_named, channel_named, sender_named};
-ghost use Rattle.key_tables.specs.Text.{two_words, three_words, group_row, tool_row, role_row, row_of, line_says, row_said, at_line, refusal, tables_of, IsRefusal, IsTextFault};
+ghost use Rattle.key_tables.specs.Text.{two_words, three_words, group_row, tool_row, role_row, row_of, line_says, row_said, at_line, refusal, tables_of, IsRefusal, IsTextFault, SaysNothingTwice};
 
 use crate::{BuildFault, Channel, Level, Role, Row, RowList, TablesFault};
 use hex::FromHex;
@@ -150,6 +150,7 @@ fn read_line(line: &[u8]) -> Result<Option<Row>, Cause>
 pub fn read_tables(alloc: Global, bytes: &[u8]) -> Result<RowList, TablesFault>
     ensures rows { IfOk result (λ rows. tables_of bytes.now ≡ Ok rows) }
     ensures fault { IfErr result (λ fault. IsTextFault fault (tables_of bytes.now)) }
+    ensures once { SaysNothingTwice bytes.now }
 {
     let mut list = RowList::new(alloc);
     let mut lines = Lines::new(bytes);

@@ -2,6 +2,7 @@ use Rattle.std.proofs.Common.{rules, ◌++◌, ◌∷◌, [], sym, subst, refl}
 use Rattle.std.specs.Str.Lines.{lines}
 use Rattle.key_tables.specs.Text.{IsTextFault, tables_of}
 use Rattle.key_tables.proofs.TextLemmas.{HasRead, line_taken, line_refused, text_read}
+use Rattle.key_tables.proofs.TextOnce.{says_once}
 use Rattle.key_tables.proofs.reading.read_tables.Goals as goal
 
 pub lines-preserved : goal.lines-preserved
@@ -24,3 +25,9 @@ returns-in_err-take_line-clause-fault c =
 
 pub returns-clause-rows : goal.returns-clause-rows
 returns-clause-rows c = text_read _ _ _ _ _ c.lines.invariant.1 c.in_default.ensures.line
+
+pub returns-in_err-take_line-clause-once : goal.returns-in_err-take_line-clause-once
+returns-in_err-take_line-clause-once c = says_once c.args.bytes.now
+
+pub returns-clause-once : goal.returns-clause-once
+returns-clause-once c = says_once c.args.bytes.now
