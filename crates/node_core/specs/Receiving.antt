@@ -87,6 +87,9 @@ abbrev pub mark_told : ConfigState → Standing → IndAddr → Lane → ℕ
 mark_told c s requester lane =
     max (mark_at s.numbers.marks (place_in c (lanes.Run requester))) (mark_at s.numbers.marks (place_in c lane))
 
+abbrev pub told_answer : List ℕ → Transition (Result ℕ SendFault) → Transition Outcome
+told_answer challenge t = told_as (λ sent. outcome.Answered challenge (number_sent sent)) t
+
 -- the answer to a request, which tells a number that was kept
 abbrev pub answer_transition : ConfigState → Standing → IndAddr → List ℕ → ℕ → Transition (Result ℕ SendFault)
 answer_transition c s to challenge kept =
@@ -100,7 +103,7 @@ synced_transition s number kept =
 abbrev pub verdict_transition : ConfigState → Standing → IndAddr → Addressee → Lane → List ℕ → Verdict → Transition Outcome
 verdict_transition c s source to lane apdu (verdict.Accepted number service) = act_transition c s to lane number service apdu
 verdict_transition c s source to lane apdu (verdict.SyncAsk number challenge) =
-    told_as (λ sent. outcome.Answered challenge (number_sent sent)) (answer_transition c s source challenge (mark_told c s source lane))
+    told_answer challenge (answer_transition c s source challenge (mark_told c s source lane))
 verdict_transition c s source to lane apdu (verdict.SyncAnswer number kept) = synced_transition s number kept
 verdict_transition c s source to lane apdu refused = quiet s (outcome.Refused refused)
 
