@@ -12,6 +12,7 @@ use Rattle.seq_store.specs.Draws.{reservation_for}
 use Rattle.seq_store.specs.Layout.{most_lanes, store_size, value_of, raise_writes}
 use Rattle.seq_store.specs.Laws.{Ready, IsRaised, MayRaise, HasRaiseLaws, Raises}
 use Rattle.seq_store.proofs.Cells.{raises_whole}
+use Rattle.seq_store.proofs.Restored.{restores_marked, restores_reserved}
 use Rattle.seq_store.proofs.Starts.{restores_ready}
 
 module _ (s : State) (marks : List ℕ) (last : ℕ) (agrees : Agrees s marks last) where
@@ -47,37 +48,15 @@ module _ (s : State) (marks : List ℕ) (last : ℕ) (agrees : Agrees s marks la
   agrees_raised lane n b in_range on raised = record {
     powered = on;
     fits = agrees.fits;
-    restores = record {
-      size = subst (λ lanes. length b.octets ≡ store_size lanes) (sym same_lanes) raised.ready.size;
-      reserved = subst (λ lanes. value_of lanes b.octets 0 ≡ Some last) (sym same_lanes)
-          (raised.others 0 (omega arith) (λ same. absurd (omega (arith, same))) ∙ agrees.restores.reserved);
-      each = λ other h. subst (λ lanes. value_of lanes b.octets (1 + other) ≡ Some (slice_index (slice_set marks lane n) other)) (sym same_lanes)
-          (each other (omega (arith, h, same_lanes)));
-    };
-  } where
-    same_lanes : length (slice_set marks lane n) ≡ length marks
-    same_lanes = grind (arith, common_steps)
-
-    each : (other : ℕ) → other < length marks → value_of (length marks) b.octets (1 + other) ≡ Some (slice_index (slice_set marks lane n) other)
-    each other h = elim (cases_order other lane) [
-      | inl same ↦ subst (λ k. value_of (length marks) b.octets (1 + k) ≡ Some (slice_index (slice_set marks lane n) k)) (sym same)
-          (raised.here ∙ ap Some (grind (arith, common_steps)))
-      | inr apart ↦
-          let not_same : other ≢ lane = λ same. elim apart [ inl below ↦ absurd (omega arith) | inr above ↦ absurd (omega arith) ] in
-          raised.others (1 + other) (omega arith) (λ same. not_same (omega (arith, same)))
-          ∙ agrees.restores.each other h ∙ ap Some (grind (arith, common_steps))
-    ]
+    restores = restores_marked s.octets b.octets last marks lane n in_range agrees.restores raised;
+  }
 
   -- and after one of the last reserved number
   pub agrees_reserved : (n : ℕ) (b : State) → n < 2 ^ 48 → b.powered ≡ true → IsRaised (length marks) s.octets 0 n b.octets → Agrees b marks n
   agrees_reserved n b fits on raised = record {
     powered = on;
     fits = fits;
-    restores = record {
-      size = raised.ready.size;
-      reserved = raised.here;
-      each = λ lane in_range. raised.others (1 + lane) (omega arith) (λ same. absurd (omega (arith, same))) ∙ agrees.restores.each lane in_range;
-    };
+    restores = restores_reserved s.octets b.octets last marks n agrees.restores raised;
   }
 
   none_raised : IsRaised (length marks) s.octets 0 last s.octets

@@ -1,12 +1,11 @@
-ghost use Rattle.std.specs.Prelude.{◌≡◌, ℕ, ◌+◌, ◌-◌, ◌*◌, ◌/◌, ◌^◌, ◌<◌, ◌≤◌, ◌↔◌, true, List, length, Some, None, Err, IsTrue, IsOk, IsNone, IfOk, OnOk, OnErr};
-ghost use Rattle.std.specs.List.{sum_by};
-ghost use Rattle.knx_base.specs.Faults.{Rose};
-ghost use Rattle.nvm_model.specs.Nvm.{HasNvmCause, LeavesOnly, fault_of};
-ghost use Rattle.seq_store.specs.Draws.{reservation_for, Drawn, IsDraw, AreDraws};
-ghost use Rattle.seq_store.specs.Laws.{restore_reserved, IsRaised, IsOldOrRaised, Raises};
-ghost use Rattle.seq_store.specs.Layout.{value_of};
+ghost use Rattle.std.specs.Prelude.{◌≡◌, ℕ, ◌+◌, ◌^◌, ◌<◌, ◌≤◌, ◌↔◌, true, IsTrue, IsOk, IsNone, OnOk, OnErr};
+ghost use Rattle.nvm_model.specs.Nvm.{fault_of};
+ghost use Rattle.seq_store.specs.Calls.{HasCountedCause, IsNumberDrawn, ReservesFirst, TakesFewWrites};
+ghost use Rattle.seq_store.specs.Draws.{reservation_for};
+ghost use Rattle.seq_store.specs.Laws.{Raises};
 ghost use Rattle.seq_store.specs.Refusal.{draw_fault};
-ghost use Rattle.seq_store.specs.Store.{store_state, lanes_of};
+ghost use Rattle.seq_store.specs.Runs.{Runs, after_raises, draw_raises};
+ghost use Rattle.seq_store.specs.Store.{store_state, lanes_of, numbers_of};
 
 use crate::layout::raise_value;
 use crate::{DrawFault, SeqStore};
@@ -22,62 +21,21 @@ impl<M: Nvm> SeqStore<M> {
     ///
     /// A loss of power at any moment leaves the old reservation or the new one, and every mark as it was. Memory comes only where
     /// the reservation is raised, as the memory answered; the store is then not sound.
-    #[tactic(auto, using(crate::proofs::Bound::draws_bound))]
     pub fn draw(&mut self) -> Result<Number48, DrawFault>
         requires sound { (store_state self.old).sound ≡ true }
 
-        ensures number { IfOk result (λ number. number ≡ (store_state self.old).next) }
-        ensures next { OnOk result ((store_state self.new).next ≡ (store_state self.old).next + 1) }
-        ensures refused { OnErr result ((store_state self.new).next ≡ (store_state self.old).next) }
-        ensures marks { (store_state self.new).marks ≡ (store_state self.old).marks }
-        ensures sound { IsTrue (store_state self.new).sound ↔ IsNone (draw_fault result) }
-        ensures exhausted { (result ≡ Err DrawFault.Exhausted) ↔ ((store_state self.old).next ≡ 2 ^ 48) }
-        ensures unchanged { result ≡ Err DrawFault.Exhausted → store_state self.new ≡ store_state self.old }
-        ensures cause { let old = store_state self.old in let new = store_state self.new in
-            HasNvmCause (draw_fault result) (M.state old.memory) (M.state new.memory) }
-        ensures cut { draw_fault result ≡ Some NvmFault.Cut
-            → Rose (M.state (store_state self.old).memory).cuts (M.state (store_state self.new).memory).cuts }
-        ensures few { let old = store_state self.old in let new = store_state self.new in
-            (M.state new.memory).clock ≤ (M.state old.memory).clock + 3 }
-
-        // Where the number is reserved nothing but the next number changes.
-        ensures is_reserved { let old = store_state self.old in let new = store_state self.new in
-            (last : ℕ) → restore_reserved (lanes_of old) (M.state old.memory).octets ≡ Some last → old.next ≤ last
-            → IsOk result × (new.memory ≡ old.memory) }
-
-        // Where it is not the reservation is raised.
-        ensures reserves { let old = store_state self.old in let new = store_state self.new in
-            (last : ℕ) → restore_reserved (lanes_of old) (M.state old.memory).octets ≡ Some last → last < old.next → old.next < 2 ^ 48
-            → Raises (lanes_of old) 0 (reservation_for last old.next) (draw_fault result)
+        ensures number { IsNumberDrawn result (store_state self.old) (store_state self.new) }
+        ensures runs { let old = store_state self.old in let new = store_state self.new in
+            Runs (numbers_of old) (draw_raises old.reserved old.next) (draw_fault result)
             (M.state old.memory) (M.state new.memory) (M.images old.memory) (M.images new.memory) }
-
-        // In both cases each image has the old reservation or the new one and every mark as before,
-        ensures any_moment { let old = store_state self.old in let new = store_state self.new in
-            (last : ℕ) → restore_reserved (lanes_of old) (M.state old.memory).octets ≡ Some last
-            → LeavesOnly (M.state old.memory).clock (M.images old.memory) (M.images new.memory)
-            (IsOldOrRaised (lanes_of old) (M.state old.memory).octets 0 (reservation_for last old.next)) }
-
-        // and after Ok the octets have the new one,
-        ensures reserved { let old = store_state self.old in let new = store_state self.new in
-            (last : ℕ) → restore_reserved (lanes_of old) (M.state old.memory).octets ≡ Some last
-            → OnOk result (IsRaised (lanes_of old) (M.state old.memory).octets 0 (reservation_for last old.next) (M.state new.memory).octets) }
-
-        // so that a start over them goes on above the number.
-        ensures covered { let new = store_state self.new in
-            (last : ℕ) → restore_reserved (lanes_of new) (M.state new.memory).octets ≡ Some last → IfOk result (λ number. number ≤ last) }
-
-        // Draws after a start take few writes, as long as the next number is not raised in between.
-        ensures is_draw { let old = store_state self.old in let new = store_state self.new in
-            (old_last new_last : ℕ) → restore_reserved (lanes_of old) (M.state old.memory).octets ≡ Some old_last
-            → restore_reserved (lanes_of new) (M.state new.memory).octets ≡ Some new_last
-            → IsDraw old_last old.next (record {
-              writes = (M.state new.memory).clock - (M.state old.memory).clock;
-              sound = new.sound;
-              last = new_last;
-              next = new.next;
-            }) }
-        ensures bound { (last : ℕ) (draws : List Drawn) → last < 2 ^ 48 → AreDraws true last (last + 1) draws
-            → sum_by (λ d. d.writes) draws ≤ 3 * (1 + length draws / 64) }
+        ensures numbers { let old = store_state self.old in
+            OnOk result (numbers_of (store_state self.new) ≡ after_raises (draw_raises old.reserved old.next) (numbers_of old)) }
+        ensures same_numbers { OnErr result (numbers_of (store_state self.new) ≡ numbers_of (store_state self.old)) }
+        ensures reserves { ReservesFirst result (store_state self.old) (store_state self.new) M.state M.images }
+        ensures few { TakesFewWrites (store_state self.old) (store_state self.new) M.state }
+        ensures sound { IsTrue (store_state self.new).sound ↔ IsNone (draw_fault result) }
+        ensures cause { let old = store_state self.old in let new = store_state self.new in
+            HasCountedCause (draw_fault result) (M.state old.memory) (M.state new.memory) }
     {
         let Some(number) = Number48::new(self.next) else {
             return Err(DrawFault::Exhausted);
@@ -92,12 +50,18 @@ impl<M: Nvm> SeqStore<M> {
         requires sound { self.old.sound ≡ true }
         requires next { number ≡ self.old.next }
 
-        ensures unchanged { number ≤ self.old.reserved → IsOk result × (self.new.memory ≡ self.old.memory) }
+        ensures is_reserved { number ≤ self.old.reserved → IsOk result × (self.new.memory ≡ self.old.memory) }
         ensures raises { self.old.reserved < number
             → Raises (lanes_of (store_state self.old)) 0 (reservation_for self.old.reserved number) (fault_of result)
             (M.state self.old.memory) (M.state self.new.memory) (M.images self.old.memory) (M.images self.new.memory) }
+        ensures runs { let old = store_state self.old in let new = store_state self.new in
+            Runs (numbers_of old) (draw_raises old.reserved old.next) (fault_of result)
+            (M.state old.memory) (M.state new.memory) (M.images old.memory) (M.images new.memory) }
+        ensures numbers { let old = store_state self.old in
+            OnOk result (numbers_of (store_state self.new) ≡ after_raises (draw_raises old.reserved old.next) (numbers_of old)) }
+        ensures same_numbers { OnErr result (numbers_of (store_state self.new) ≡ numbers_of (store_state self.old)) }
+        ensures covered { IsOk result → number ≤ self.new.reserved }
         ensures few { (M.state self.new.memory).clock ≤ (M.state self.old.memory).clock + 3 }
-        ensures marks { self.new.marks ≡ self.old.marks }
         ensures next { self.new.next ≡ self.old.next }
         ensures sound { IsTrue self.new.sound ↔ IsOk result }
     {

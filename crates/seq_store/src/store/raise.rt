@@ -1,8 +1,9 @@
-ghost use Rattle.std.specs.Prelude.{◌≡◌, ◌+◌, ◌<◌, ◌≤◌, ◌↔◌, true, Err, length, slice_index, slice_set, IsTrue, IsOk, OnOk, OnErr};
-ghost use Rattle.knx_base.specs.Faults.{Rose};
+ghost use Rattle.std.specs.Prelude.{◌≡◌, ◌+◌, ◌<◌, ◌↔◌, true, [], ◌∷◌, slice_index, IsTrue, IsOk, OnOk, OnErr};
 ghost use Rattle.nvm_model.specs.Nvm.{fault_of};
+ghost use Rattle.seq_store.specs.Calls.{HasCountedCause};
 ghost use Rattle.seq_store.specs.Laws.{Raises};
-ghost use Rattle.seq_store.specs.Store.{store_state, lanes_of};
+ghost use Rattle.seq_store.specs.Runs.{Runs, Mark, after_raise};
+ghost use Rattle.seq_store.specs.Store.{store_state, lanes_of, numbers_of};
 
 use crate::SeqStore;
 use crate::layout::raise_value;
@@ -22,11 +23,14 @@ impl<M: Nvm> SeqStore<M> {
         ensures raises { let old = store_state self.old in let new = store_state self.new in
             Raises (lanes_of old) (1 + lane) number (fault_of result)
             (M.state old.memory) (M.state new.memory) (M.images old.memory) (M.images new.memory) }
-        // With power on Cut too has its cause in a count that rose.
-        ensures cut { result ≡ Err NvmFault.Cut
-            → Rose (M.state (store_state self.old).memory).cuts (M.state (store_state self.new).memory).cuts }
-        ensures marks { OnOk result ((store_state self.new).marks ≡ slice_set (store_state self.old).marks lane number) }
-        ensures refused { OnErr result ((store_state self.new).marks ≡ (store_state self.old).marks) }
+        ensures runs { let old = store_state self.old in let new = store_state self.new in
+            Runs (numbers_of old) (Mark lane number ∷ []) (fault_of result)
+            (M.state old.memory) (M.state new.memory) (M.images old.memory) (M.images new.memory) }
+        ensures numbers { let old = numbers_of (store_state self.old) in
+            OnOk result (numbers_of (store_state self.new) ≡ after_raise (Mark lane number) old) }
+        ensures same_numbers { OnErr result (numbers_of (store_state self.new) ≡ numbers_of (store_state self.old)) }
+        ensures cause { let old = store_state self.old in let new = store_state self.new in
+            HasCountedCause (fault_of result) (M.state old.memory) (M.state new.memory) }
         ensures next { (store_state self.new).next ≡ (store_state self.old).next }
         ensures sound { IsTrue (store_state self.new).sound ↔ IsOk result }
     {

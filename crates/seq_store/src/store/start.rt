@@ -1,10 +1,11 @@
-ghost use Rattle.std.specs.Prelude.{◌≡◌, ◌≢◌, ℕ, ◌+◌, ◌<◌, ◌≤◌, ◌↔◌, true, Some, None, Err, length, slice_index, option_map, IsSome, IfOk, IfErr};
+ghost use Rattle.std.specs.Prelude.{◌≡◌, ◌≢◌, ℕ, ◌+◌, ◌≤◌, ◌↔◌, true, Some, None, Err, length, IfOk, IfErr};
 ghost use Rattle.nvm_model.specs.Nvm.{Reads};
-ghost use Rattle.nvm_model.specs.declared.fault.NvmFault.{NvmFault};
-ghost use Rattle.seq_store.specs.Laws.{restore, restore_reserved, Restores, IsUnformattedAt};
-ghost use Rattle.seq_store.specs.Layout.{most_lanes, store_size, value_of};
-ghost use Rattle.seq_store.specs.Refusal.{read_fault, reading_fault, refusal_of, has_read};
-ghost use Rattle.seq_store.specs.Store.{store_state};
+ghost use Rattle.seq_store.specs.Calls.{IsHandedBack};
+ghost use Rattle.seq_store.specs.Laws.{Restores, IsUnformattedAt};
+ghost use Rattle.seq_store.specs.Layout.{most_lanes, store_size};
+ghost use Rattle.seq_store.specs.Refusal.{reading_fault, refusal_of, has_read};
+ghost use Rattle.seq_store.specs.Runs.{RestoresNumbers, numbers_in};
+ghost use Rattle.seq_store.specs.Store.{store_state, lanes_of, numbers_of};
 
 use crate::layout::read_value;
 use crate::{SeqStore, StoreFault, StoreRefused};
@@ -22,22 +23,18 @@ impl<M: Nvm> SeqStore<M> {
         requires size { length (M.state memory).octets ≡ store_size lanes }
         requires lanes_fit { lanes ≤ most_lanes }
 
-        ensures lanes { IfOk result (λ store. length (store_state store).marks ≡ lanes) }
-        ensures marks { IfOk result (λ store. (lane : ℕ) → lane < lanes
-            → restore lanes (M.state memory).octets lane ≡ Some (slice_index (store_state store).marks lane)) }
-        ensures next { IfOk result (λ store.
-            option_map (λ last. last + 1) (restore_reserved lanes (M.state memory).octets) ≡ Some (store_state store).next) }
+        ensures lanes { IfOk result (λ store. lanes_of (store_state store) ≡ lanes) }
+        ensures numbers { IfOk result (λ store. numbers_of (store_state store) ≡ numbers_in lanes (M.state memory).octets) }
+        ensures restores { IfOk result (λ store. RestoresNumbers (numbers_of (store_state store)) (M.state memory).octets) }
+        ensures after_reserved { IfOk result (λ store. (store_state store).next ≡ (store_state store).reserved + 1) }
         ensures sound { IfOk result (λ store. (store_state store).sound ≡ true) }
         ensures reads { IfOk result (λ store. Reads None
             (M.state memory) (M.state (store_state store).memory) (M.images memory) (M.images (store_state store).memory)) }
 
         ensures unformatted { (place : ℕ) → (refusal_of result ≡ Some (StoreFault.Unformatted place))
             ↔ (IsUnformattedAt lanes (M.state memory).octets place × (has_read (refusal_of result) ≡ true)) }
-        ensures refused { IfErr result (λ refused. refused.fault ≢ StoreFault.NoMemory → Reads (read_fault refused.fault)
+        ensures refused { IfErr result (λ refused. IsHandedBack refused.fault (refused.memory ≡ memory)
             (M.state memory) (M.state refused.memory) (M.images memory) (M.images refused.memory)) }
-        ensures told { IsSome (M.state memory).plan → (M.state memory).powered ≡ true
-            → (fault : NvmFault) → refusal_of result ≢ Some (StoreFault.Memory fault) }
-        ensures unread { IfErr result (λ refused. refused.fault ≡ StoreFault.NoMemory → refused.memory ≡ memory) }
     {
         let zero = Number48::from_bytes([0; 6]);
         let Ok(mut marks) = vec![in alloc; zero; lanes] else {

@@ -1,7 +1,8 @@
-ghost use Rattle.std.specs.Prelude.{◌≡◌, ℕ, ◌+◌, ◌^◌, ◌<◌, ◌≤◌, true, Some, length, max, slice_index, IsTrue};
-ghost use Rattle.seq_store.specs.Laws.{restore, Ready};
-ghost use Rattle.seq_store.specs.Layout.{store_size, value_of};
-ghost use Rattle.seq_store.specs.Store.{store_state, lanes_of};
+ghost use Rattle.std.specs.Prelude.{◌≡◌, ◌+◌, ◌^◌, ◌<◌, ◌≤◌, true, length, max, slice_index, IsTrue};
+ghost use Rattle.seq_store.specs.Laws.{Ready};
+ghost use Rattle.seq_store.specs.Layout.{store_size};
+ghost use Rattle.seq_store.specs.Runs.{RestoresNumbers};
+ghost use Rattle.seq_store.specs.Store.{store_state, lanes_of, numbers_of};
 
 use crate::SeqStore;
 use knx_base::Number48;
@@ -24,14 +25,14 @@ impl<M: Nvm> SeqStore<M> {
         self.next
     }
 
-    /// Whether no call of the memory has failed. While none has, power is on, and the memory restores the marks.
+    /// Whether no call of the memory has failed. While none has, power is on, and the memory restores the last
+    /// reserved number and the marks.
     pub fn is_sound(&self) -> bool
         ensures sound { result ≡ (store_state self.now).sound }
         ensures powered { IsTrue result → (M.state (store_state self.now).memory).powered ≡ true }
         ensures ready { IsTrue result → Ready (lanes_of (store_state self.now)) (M.state (store_state self.now).memory).octets }
-        ensures restores { let store = store_state self.now in
-            IsTrue result → (lane : ℕ) → lane < lanes_of store
-            → restore (lanes_of store) (M.state store.memory).octets lane ≡ Some (slice_index store.marks lane) }
+        ensures restores_numbers { let store = store_state self.now in
+            IsTrue result → RestoresNumbers (numbers_of store) (M.state store.memory).octets }
     {
         self.sound
     }
