@@ -1,22 +1,23 @@
-ghost use Rattle.std.specs.Prelude.{◌≡◌, ◌≤◌, ◌<◌, ℕ, None, Some, Option, position, map, length, IsOk, IfOk, IfErr, IfSome};
-ghost use Rattle.seq_store.specs.Layout.{most_lanes, store_size};
-ghost use Rattle.key_tables.specs.Lanes.{is_any};
+ghost use Rattle.std.specs.Prelude.{◌≡◌, ◌≤◌, false, None, position, length, IsOk, IsNone, IfOk, IfErr};
+ghost use Rattle.std.specs.List.{list_any};
+ghost use Rattle.seq_store.specs.Layout.{most_lanes};
+ghost use Rattle.key_tables.specs.Lanes.{is_any, lanes_of};
 ghost use Rattle.node_core.specs.Config.{configured, config_fault, groups_of, IsConfigFault};
 ghost use Rattle.node_core.specs.Node.{config_state};
 
 use crate::{Config, ConfigFault};
 use group_objects::{ObjectRow, Objects, ObjectsFault};
-use key_tables::{BuildFault, LaneList, Row, Tables, lanes};
-use knx_base::{GroupAddr, IndAddr};
+use key_tables::{BuildFault, LaneList, Row, Tables};
+use knx_base::{GroupAddr, IndAddr, NoMemory};
 use std::alloc::Global;
 
 // The most lanes that a memory keeps marks for.
 const MOST_LANES: usize = 64;
 
 impl Config {
-    /// The configuration of the device of this address: the keys and roles of its installation, and its objects with their first values.
+    /// The configuration of the device of this address: the rows of its installation, and its objects with their first values.
     ///
-    /// A refusal tells the first fault in the order of `ConfigFault`.
+    /// A refusal tells the first fault in the order of [`ConfigFault`].
     pub fn build(
         alloc: Global,
         address: IndAddr,
@@ -35,14 +36,13 @@ impl Config {
             Err(BuildFault::NoMemory) => return Err(ConfigFault::NoMemory),
             Err(fault) => return Err(ConfigFault::Rows(fault)),
         };
-        let objects = match Objects::build(alloc, objects) {
-            Ok(objects) => objects,
+        let held = match Objects::build(alloc, objects) {
+            Ok(held) => held,
             Err(ObjectsFault::NoMemory) => return Err(ConfigFault::NoMemory),
             Err(fault) => return Err(ConfigFault::Objects(fault)),
         };
-        let lanes = match node_lanes(alloc, address, rows, &objects) {
-            Ok(lanes) => lanes,
-            Err(_) => return Err(ConfigFault::NoMemory),
+        let Ok(lanes) = node_lanes(alloc, address, rows, objects) else {
+            return Err(ConfigFault::NoMemory);
         };
         let count = lanes.as_slice().len();
         if count > MOST_LANES {
@@ -51,7 +51,7 @@ impl Config {
         Ok(Config {
             address,
             tables,
-            objects,
+            objects: held,
             lanes,
         })
     }
@@ -59,7 +59,27 @@ impl Config {
 
 // The place of the first role row of any sender.
 fn any_row(rows: &[Row]) -> Option<usize>
-    ensures { result ≡ position is_any rows.now }
+    ensures first { result ≡ position is_any rows.now }
+    ensures none { IsNone result → list_any is_any rows.now ≡ false }
 {
-    rows.iter().position(|row| is_any(row))
+    rows.iter().position(is_any)
+}
+
+fn is_any(row: &Row) -> bool
+    ensures { result ≡ is_any row.now }
+{
+    matches!(row, Row::Role { sender: None, .. })
+}
+
+fn node_lanes(
+    alloc: Global,
+    address: IndAddr,
+    rows: &[Row],
+    objects: &[ObjectRow],
+) -> Result<LaneList, NoMemory>
+    requires named { list_any is_any rows.now ≡ false }
+    ensures lanes { IfOk result (λ lanes. lanes ≡ lanes_of rows.now address (groups_of objects.now)) }
+{
+    let groups: Vec<GroupAddr> = objects.iter().map(|object| object.group).collect(alloc)?;
+    key_tables::lanes(alloc, rows, address, &groups)
 }

@@ -1,9 +1,9 @@
-ghost use Rattle.std.specs.Prelude.{◌≡◌, ◌≢◌, ◌↔◌, ℕ, true, None, Some, length, IsSome, IfOk, IfErr};
+ghost use Rattle.std.specs.Prelude.{◌≡◌, ◌↔◌, ℕ, true, None, Some, length, IfOk, IfErr};
 ghost use Rattle.nvm_model.specs.Nvm.{Reads};
-ghost use Rattle.nvm_model.specs.declared.fault.NvmFault.{NvmFault};
 ghost use Rattle.seq_store.specs.Laws.{IsUnformattedAt};
 ghost use Rattle.seq_store.specs.Layout.{store_size};
-ghost use Rattle.seq_store.specs.Refusal.{read_fault, has_read};
+ghost use Rattle.seq_store.specs.Calls.{IsHandedBack};
+ghost use Rattle.seq_store.specs.Refusal.{has_read};
 ghost use Rattle.node_core.specs.Node.{config_state, node_state, IsStarted, start_refusal};
 
 use crate::{Config, Node, StartRefused};
@@ -28,11 +28,8 @@ impl<M: Nvm> Node<M> {
         ensures unformatted { (place : ℕ) → (start_refusal result ≡ Some (StoreFault.Unformatted place))
             ↔ (IsUnformattedAt (length (config_state config).lanes) (M.state memory).octets place
             × (has_read (start_refusal result) ≡ true)) }
-        ensures refused { IfErr result (λ refused. refused.fault ≢ StoreFault.NoMemory → Reads (read_fault refused.fault)
+        ensures refused { IfErr result (λ refused. IsHandedBack refused.fault (refused.memory ≡ memory)
             (M.state memory) (M.state refused.memory) (M.images memory) (M.images refused.memory)) }
-        ensures told { IsSome (M.state memory).plan → (M.state memory).powered ≡ true
-            → (fault : NvmFault) → start_refusal result ≢ Some (StoreFault.Memory fault) }
-        ensures unread { IfErr result (λ refused. refused.fault ≡ StoreFault.NoMemory → refused.memory ≡ memory) }
         ensures handed_back { IfErr result (λ refused. config_state refused.config ≡ config_state config) }
     {
         match SeqStore::start(alloc, config.lanes.as_slice().len(), memory) {
