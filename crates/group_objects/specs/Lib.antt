@@ -1,0 +1,5 @@
+pub mod Value
+pub mod Padded
+pub mod Apdus
+pub mod Effects
+pub mod Objects
