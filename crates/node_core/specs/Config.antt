@@ -1,5 +1,5 @@
 -- Which configurations a node may have.
-use Rattle.std.specs.Prelude.{ℕ, nat_lt, if◌then◌else◌, List, [], ◌++◌, length, map, position, Bool, true, false, Option, Some, None, option_map}
+use Rattle.std.specs.Prelude.{◌≡◌, ℕ, nat_lt, if◌then◌else◌, List, [], ◌++◌, length, map, position, Bool, true, false, Option, Some, None, option_map}
 use Rattle.std.specs.Option.{option_or}
 use Rattle.knx_base.specs.declared.address.IndAddr.{IndAddr}
 use Rattle.knx_base.specs.declared.address.GroupAddr.{GroupAddr}

@@ -5,3 +5,4 @@ pub mod Message
 pub mod Receiving
 pub mod Config
 pub mod Node
+pub mod Laws

@@ -25,10 +25,14 @@ use Rattle.node_core.specs.Transition.{Transition, quiet}
 -- ---- drawing a number
 
 -- The next number is drawn, and the frame that is sealed under it is handed out.
+abbrev pub sealing : (ℕ → List ℕ) → Standing → Transition (Result ℕ SendFault)
+sealing frame s =
+    record { outcome = Ok s.next; raises = draw_raises s.numbers.reserved s.next; frame = Some (frame s.next); after = drawn s }
+
+-- unless all numbers are drawn
 abbrev pub drawing : (ℕ → List ℕ) → Standing → Transition (Result ℕ SendFault)
 drawing frame s =
-    if s.next == 2 ^ 48 then quiet s (Err fault.Exhausted)
-    else record { outcome = Ok s.next; raises = draw_raises s.numbers.reserved s.next; frame = Some (frame s.next); after = drawn s }
+    if s.next == 2 ^ 48 then quiet s (Err fault.Exhausted) else sealing frame s
 
 abbrev pub under_key : Option (List ℕ) → (List ℕ → ℕ → List ℕ) → Standing → Transition (Result ℕ SendFault)
 under_key None frame s = quiet s (Err fault.NoKey)

@@ -33,7 +33,7 @@ impl Message<'_> {
     // Writes the frame of the message, sealed under this key and this number.
     pub(crate) fn seal(self, key: &Key128, source: IndAddr, number: Number48, out: &mut FrameBuf)
         requires sendable { IsSendable self }
-        ensures frame { out.new ≡ message_frame source self key.now number }
+        ensures frame { out.new ≡ message_frame source self.entry key.now number }
     {
         match self {
             Message::Data {

@@ -1,4 +1,4 @@
-ghost use Rattle.std.specs.Prelude.{◌≡◌, ◌≤◌, false, None, position, length, IsOk, IsNone, IfOk, IfErr};
+ghost use Rattle.std.specs.Prelude.{◌≡◌, ◌≤◌, false, None, position, length, IsOk, IfOk, IfErr};
 ghost use Rattle.std.specs.List.{list_any};
 ghost use Rattle.seq_store.specs.Layout.{most_lanes};
 ghost use Rattle.key_tables.specs.Lanes.{is_any, lanes_of};
@@ -9,7 +9,7 @@ use crate::{Config, ConfigFault};
 use group_objects::{ObjectRow, Objects, ObjectsFault};
 use key_tables::{BuildFault, LaneList, Row, Tables};
 use knx_base::{GroupAddr, IndAddr, NoMemory};
-use std::alloc::Global;
+use std::alloc::{AllocError, Global};
 
 // The most lanes that a memory keeps marks for.
 const MOST_LANES: usize = 64;
@@ -18,6 +18,7 @@ impl Config {
     /// The configuration of the device of this address: the rows of its installation, and its objects with their first values.
     ///
     /// A refusal tells the first fault in the order of [`ConfigFault`].
+    #[tactic(auto, using(crate::proofs::Starting::none_passes))]
     pub fn build(
         alloc: Global,
         address: IndAddr,
@@ -59,8 +60,7 @@ impl Config {
 
 // The place of the first role row of any sender.
 fn any_row(rows: &[Row]) -> Option<usize>
-    ensures first { result ≡ position is_any rows.now }
-    ensures none { IsNone result → list_any is_any rows.now ≡ false }
+    ensures { result ≡ position is_any rows.now }
 {
     rows.iter().position(is_any)
 }
@@ -80,6 +80,12 @@ fn node_lanes(
     requires named { list_any is_any rows.now ≡ false }
     ensures lanes { IfOk result (λ lanes. lanes ≡ lanes_of rows.now address (groups_of objects.now)) }
 {
-    let groups: Vec<GroupAddr> = objects.iter().map(|object| object.group).collect(alloc)?;
+    let groups = groups_of(alloc, objects)?;
     key_tables::lanes(alloc, rows, address, &groups)
+}
+
+fn groups_of(alloc: Global, objects: &[ObjectRow]) -> Result<Vec<GroupAddr>, AllocError>
+    ensures groups { IfOk result (λ groups. groups.items ≡ groups_of objects.now) }
+{
+    objects.iter().map(|object| object.group).collect(alloc)
 }

@@ -1,10 +1,9 @@
-ghost use Rattle.std.specs.Prelude.{◌≡◌, ◌≢◌, ◌<◌, ◌≤◌, ℕ, Option, Some, None, true, length, slice_get};
+ghost use Rattle.std.specs.Prelude.{◌≡◌, ◌≢◌, ◌<◌, ◌≤◌, ℕ, Option, Some, None, Ok, true, length, slice_get};
 ghost use Rattle.nvm_model.specs.Nvm.{State};
 ghost use Rattle.seq_store.specs.Runs.{Runs};
+ghost use Rattle.group_objects.specs.Effects.{accepted, KeepsForm};
 ghost use Rattle.node_core.specs.Node.{node_state, receive_stop, Does};
 ghost use Rattle.node_core.specs.Receiving.{verdict_transition, act_transition, row_transition, effect_transition, reply_transition, answer_transition, synced_transition, mark_told, told_answer};
-ghost use Rattle.group_objects.specs.Effects.{accepted};
-
 use crate::message::Message;
 use crate::outcome::Addressee;
 use crate::{Act, Node, Outcome, SendFault};
@@ -120,8 +119,33 @@ impl<M: Nvm> Node<M> {
             (receive_stop result) (M.state old.memory) (M.state new.memory) (M.images old.memory) (M.images new.memory) }
     {
         match row.accepts(apdu) {
-            Ok(Effect::Read) => self.reply(number, lane, object, row.group, out),
-            Ok(Effect::Write(value)) => {
+            Ok(effect) => self.take_effect(number, lane, object, row, effect, out),
+            Err(bad) => Outcome::Refused(Verdict::Object(bad)),
+        }
+    }
+
+    fn take_effect(
+        &mut self,
+        number: Number48,
+        lane: Lane,
+        object: usize,
+        row: ObjectRow,
+        effect: Effect,
+        out: &mut FrameBuf,
+    ) -> Outcome
+        requires running { (node_state self.old).running ≡ true }
+        requires row { slice_get (node_state self.old).config.objects object ≡ Some row }
+        requires form { KeepsForm row.value effect }
+        ensures does { let old = node_state self.old in
+            Does (effect_transition old.config old.standing number lane object row (Ok effect))
+            (receive_stop result) result old (node_state self.new) out.old out.new }
+        ensures runs { let old = node_state self.old in let new = node_state self.new in
+            Runs old.standing.numbers (effect_transition old.config old.standing number lane object row (Ok effect)).raises
+            (receive_stop result) (M.state old.memory) (M.state new.memory) (M.images old.memory) (M.images new.memory) }
+    {
+        match effect {
+            Effect::Read => self.reply(number, lane, object, row.group, out),
+            Effect::Write(value) => {
                 self.config.objects.put(object, value);
                 Outcome::Acted {
                     number,
@@ -129,7 +153,7 @@ impl<M: Nvm> Node<M> {
                     act: Act::Write { object, value },
                 }
             }
-            Ok(Effect::Response(value)) => {
+            Effect::Response(value) => {
                 self.config.objects.put(object, value);
                 Outcome::Acted {
                     number,
@@ -137,7 +161,6 @@ impl<M: Nvm> Node<M> {
                     act: Act::Response { object, value },
                 }
             }
-            Err(bad) => Outcome::Refused(Verdict::Object(bad)),
         }
     }
 

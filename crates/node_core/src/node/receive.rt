@@ -70,6 +70,7 @@ impl<M: Nvm> Node<M> {
     }
 
     // The verdict on a frame that has no lane, and so fails a check before one that reads a mark.
+    #[tactic(auto, unfolding(knx_base::specs::Number::number_at))]
     fn verdict_without_lane(&self, frame: &Frame<'_>) -> Verdict
         ensures verdict { let node = node_state self.now in let t = telegram frame.now in
             result ≡ verdict_of node.config.rows 0 (asked_of node.standing.pending (source_of t)) t }
@@ -107,6 +108,7 @@ impl<M: Nvm> Node<M> {
     }
 
     // The mark at a place, 0 where there is none.
+    #[tactic(auto, unfolding(knx_base::specs::Number::number_at))]
     pub(crate) fn mark_at(&self, place: Option<usize>) -> Number48
         requires in_range { IfSome place (λ place. place < length (node_state self.now).standing.numbers.marks) }
         ensures mark { result ≡ mark_at (node_state self.now).standing.numbers.marks place }

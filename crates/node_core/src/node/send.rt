@@ -167,11 +167,11 @@ impl<M: Nvm> Node<M> {
         requires running { (node_state self.old).running ≡ true }
         requires sendable { IsSendable message }
         ensures does { let old = node_state self.old in
-            Does (on_channel old.config old.standing channel (message_frame old.config.address message)) (send_stop result) result
+            Does (on_channel old.config old.standing channel (message_frame old.config.address message.entry)) (send_stop result) result
             old (node_state self.new) out.old out.new }
         ensures runs { let old = node_state self.old in let new = node_state self.new in
             Runs old.standing.numbers
-            (on_channel old.config old.standing channel (message_frame old.config.address message)).raises (send_stop result)
+            (on_channel old.config old.standing channel (message_frame old.config.address message.entry)).raises (send_stop result)
             (M.state old.memory) (M.state new.memory) (M.images old.memory) (M.images new.memory) }
     {
         let source = self.config.address;
