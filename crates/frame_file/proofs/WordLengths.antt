@@ -3,7 +3,7 @@ use Rattle.std.proofs.Common.{◌≡◌, ℕ, ◌+◌, ◌≤◌, Bool, true, fa
 use Rattle.std.specs.List.{filter, list_all, slice_split, onto_first}
 use Rattle.std.proofs.lemmas.Bool.Decides.{nat_tests}
 use Rattle.std.proofs.lemmas.List.Splits.{slice_split-cons_yes, slice_split-cons_no}
-use Rattle.knx_base.specs.Lines.{most_octets, is_blank, is_text, is_word, words_of, is_comment, line_of}
+use Rattle.text_lines.specs.Lines.{most_octets, is_blank, is_text, is_word, words_of, is_comment, line_of}
 use Rattle.knx_base.specs.declared.cause.Cause.TheVariants as cause
 
 -- how many octets the parts have together

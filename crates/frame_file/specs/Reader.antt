@@ -3,7 +3,7 @@ use Rattle.std.specs.Prelude.{◌≡◌, ℕ, ◌+◌, ◌≤◌, Bool, true, fa
 use Rattle.std.specs.Str.Lines.{lines}
 use Rattle.knx_base.specs.Faults.{Rose}
 use Rattle.knx_base.specs.Files.{Seen, last_place}
-use Rattle.knx_base.specs.Reading.{WhereTold, GoesOn, ahead}
+use Rattle.text_lines.specs.Reading.{WhereTold, GoesOn, ahead}
 use Rattle.frame_file.specs.Records.{RecordList, no_records, refused_by, with_record, most_records, records_from}
 use Rattle.frame_file.specs.declared.fault.RecordFault.{RecordFault}
 use Rattle.frame_file.specs.declared.fault.RecordFault.TheVariants.{ReadFault}

@@ -3,7 +3,7 @@ use Rattle.std.specs.Prelude.{ℕ, ◌+◌, nat_lt, Bool, true, false, if◌then
 use Rattle.std.specs.Str.Lines.{lines}
 use Rattle.hex.specs.Hex.{decode_of}
 use Rattle.hex.specs.declared.error.FromHexError.{FromHexError}
-use Rattle.knx_base.specs.Lines.{line_of}
+use Rattle.text_lines.specs.Lines.{line_of}
 use Rattle.knx_base.specs.declared.cause.Cause.{Cause}
 use Rattle.knx_base.specs.declared.cause.Cause.TheVariants as cause
 use Rattle.frame_file.specs.declared.fault.RecordFault.{RecordFault}

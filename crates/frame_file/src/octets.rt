@@ -2,7 +2,8 @@ ghost use Rattle.std.specs.Prelude.{◌≡◌, ℕ, ◌≤◌, List, [], length,
 ghost use Rattle.hex.specs.Hex.{decode_of};
 ghost use Rattle.frame_file.specs.Records.{record_of, record_of_digits, said_by};
 
-use knx_base::{Cause, judge_line};
+use knx_base::Cause;
+use text_lines::judge_line;
 use std::marker::Model;
 
 /// The most octets that a line writes, two digits each.

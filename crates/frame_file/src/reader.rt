@@ -5,7 +5,8 @@ ghost use Rattle.frame_file.specs.Reader.{IsAt, Advances, TakesLine, Steps};
 use crate::RecordFault;
 use crate::fault::refusal;
 use crate::octets::Octets;
-use knx_base::{Files, LineRead, Source, TextLine, read_line};
+use knx_base::Files;
+use text_lines::{LineRead, Source, TextLine, read_line};
 
 /// The most records that a list may have.
 const MOST_RECORDS: u64 = 10_000_000;

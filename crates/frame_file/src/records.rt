@@ -34,7 +34,7 @@ impl Model for Records {
 }
 
 impl Records {
-    ghost use Rattle.std.specs.Prelude.{◌≡◌, ◌≤◌, [], None, IfOk};
+    ghost use Rattle.std.specs.Prelude.{◌≡◌, ◌≢◌, ◌≤◌, [], None, Err, IfOk};
     ghost use Rattle.std.specs.Borrow.{sem};
     ghost use Rattle.frame_file.specs.Next.{IsReading, Goes};
     ghost use Rattle.frame_file.specs.Given.{Gives, EndsSo};
@@ -53,6 +53,7 @@ impl Records {
     pub fn next<F: Files>(&mut self, files: &mut F) -> Result<Option<Record<'_>>, RecordFault>
         requires reading { IsReading (F.seen files.old) self.old }
         ensures* gives { sem 𝓛 (EndsSo self.entry (λ new. Gives (F.seen files.old) (F.seen files.new) self.old new result)) }
+        ensures kept { result ≢ Err RecordFault.ReadFault → (F.seen files.new).faults ≡ (F.seen files.old).faults }
         ensures later { (F.seen files.old).faults ≤ (F.seen files.new).faults }
     {
         if self.advance(files)? {
@@ -62,9 +63,11 @@ impl Records {
         }
     }
 
+    #[tactic(auto, using(crate::proofs::Kept::advances_kept))]
     fn advance<F: Files>(&mut self, files: &mut F) -> Result<bool, RecordFault>
         requires reading { IsReading (F.seen files.old) self.old }
         ensures goes { Goes (F.seen files.old) (F.seen files.new) self.old self.new result }
+        ensures kept { result ≢ Err RecordFault.ReadFault → (F.seen files.new).faults ≡ (F.seen files.old).faults }
         ensures later { (F.seen files.old).faults ≤ (F.seen files.new).faults }
     {
         if let Some(fault) = self.fault {

@@ -11,7 +11,7 @@ use Rattle.knx_base.specs.declared.address.IndAddr.{IndAddr}
 use Rattle.knx_base.specs.declared.cause.Cause.{Cause}
 use Rattle.knx_base.specs.declared.cause.Cause.TheVariants as cause
 use Rattle.knx_base.specs.Address.{group_of, individual_of}
-use Rattle.knx_base.specs.Lines.{line_of}
+use Rattle.text_lines.specs.Lines.{line_of}
 use Rattle.key_tables.specs.declared.types.Channel.{Channel}
 use Rattle.key_tables.specs.declared.types.Channel.TheVariants as channel
 use Rattle.key_tables.specs.declared.types.Level.{Level}

@@ -5,7 +5,8 @@ ghost use Rattle.key_tables.specs.Text.{two_words, three_words, group_row, tool_
 
 use crate::{BuildFault, Channel, Level, Role, Row, RowList, TablesFault};
 use hex::FromHex;
-use knx_base::{Cause, GroupAddr, IndAddr, Lines, Words, judge_line};
+use knx_base::{Cause, GroupAddr, IndAddr};
+use text_lines::{Lines, Words, judge_line};
 use std::alloc::Global;
 
 fn read_group(word: &str) -> Result<GroupAddr, Cause>

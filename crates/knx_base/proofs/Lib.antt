@@ -1,3 +1,4 @@
+pub mod Causes
 pub mod NumberLemmas
 pub mod Printing
 pub mod ShelfLemmas
@@ -5,8 +6,3 @@ mod DecimalLemmas
 mod Pieces
 mod AddressLemmas
 pub mod Places
-mod LineTexts
-mod LineSays
-pub mod Readers
-mod LineReads
-mod WholeFiles

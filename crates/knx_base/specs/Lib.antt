@@ -9,5 +9,3 @@ pub mod Shelf
 pub mod Decimal
 pub mod Address
 pub mod Cause
-pub mod Lines
-pub mod Reading

@@ -1,11 +1,18 @@
-ghost use Rattle.std.specs.Prelude.{ℕ, ◌<◌, length, IsSome};
+ghost use Rattle.std.specs.Prelude.{◌≡◌, ℕ, ◌-◌, ◌<◌, length, IsSome};
 ghost use Rattle.std.specs.Option.{ForSome};
-ghost use Rattle.knx_base.specs.Files.{Seen, IsThere, Opens, Reads};
+ghost use Rattle.knx_base.specs.Files.{Seen, IsThere, Opens, Reads, last_place};
 
 use crate::Failed;
 
-/// No read goes past this place of a file.
-pub const LAST_PLACE: u64 = 1 << 40;
+// No read goes past this place of a file.
+const LAST_PLACE: u64 = 1 << 40;
+
+/// How many octets of a file may be read from this place on, whatever it has.
+pub(crate) fn room_after(place: u64) -> u64
+    ensures room { result ≡ last_place - place }
+{
+    LAST_PLACE.saturating_sub(place)
+}
 
 /// Files by name, of which one is current and is read from its start to its end.
 pub trait Files {

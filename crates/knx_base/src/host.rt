@@ -6,7 +6,8 @@ ghost use Rattle.knx_base.specs.Files.{Seen, Opens, Reads, last_place};
 ghost use Rattle.knx_base.specs.Sink.{TakesPiece};
 ghost use Rattle.knx_base.specs.Host.{HostState, seen_of};
 
-use crate::{Failed, Files, LAST_PLACE, Sink};
+use crate::files::room_after;
+use crate::{Failed, Files, Sink};
 use std::io::{self, ErrorKind, Print, Read};
 use std::marker::Model;
 use std::{fs, rt};
@@ -112,9 +113,9 @@ impl<R: rt::Files> Files for HostFiles<'_, R> {
         ensures unmoved { OnErr result ((self.new.place ≡ self.old.place) × (self.new.current ≡ self.old.current)) }
     {
         if let Some(file) = &mut self.file
-            && self.place < LAST_PLACE
+            && room_after(self.place) > 0
         {
-            let room = (LAST_PLACE - self.place).min(buffer.len() as u64) as usize;
+            let room = room_after(self.place).min(buffer.len() as u64) as usize;
             if let Ok(count) = read_some(file, &mut buffer[..room]) {
                 self.place += count as u64;
                 return Ok(count);

@@ -5,10 +5,10 @@ use Rattle.std.proofs.lemmas.List.{length-drop}
 use Rattle.std.proofs.lemmas.Option.{none-some}
 use Rattle.std.specs.Io.KnownBytes.{append_known}
 use Rattle.knx_base.specs.Files.{Seen}
-use Rattle.knx_base.specs.Reading.{CurrentHas, WhereTold, GoesOn}
+use Rattle.text_lines.specs.Reading.{CurrentHas, WhereTold, GoesOn}
 use Rattle.knx_base.specs.Sink.{AppendsPrefix}
 use Rattle.knx_base.proofs.Printing.{append_known-append, append_known-nil}
-use Rattle.knx_base.proofs.Readers.{has_same, goes_then}
+use Rattle.text_lines.proofs.Readers.{has_same, goes_then}
 use Rattle.key_tables.specs.declared.types.Row.{Row}
 use Rattle.frame_file.specs.declared.fault.RecordFault.{RecordFault}
 use Rattle.frame_file.specs.declared.fault.RecordFault.TheVariants as fault_
@@ -22,7 +22,7 @@ use Rattle.audit_core.specs.Audit.{telegram_in, opened_of, line_of, total_of}
 use Rattle.audit_core.specs.State.{AuditState, Knows}
 use Rattle.audit_core.specs.Text.{line_text, total_text}
 use Rattle.knxsec_app.specs.declared.status.Status.{Status}
-use Rattle.knxsec_app.specs.declared.status.Status.TheVariants.{WriteFault}
+use Rattle.knxsec_app.specs.declared.status.Status.TheVariants.{Done, Alarm, Usage, Refused, ReadFault, WriteFault, NoMemory}
 use Rattle.knxsec_app.specs.Answer.{Answer, Answers, after}
 use Rattle.knxsec_app.specs.Auditing.{record_line, frames_answer, total_status}
 use Rattle.knxsec_app.specs.Ends.{ReadsToEnd}
@@ -118,6 +118,23 @@ stops start now rows audit records held old mid new so_far begun octets has =
     answers_all start now rows audit records held old mid new WriteFault so_far octets has
     (prefix_more mid new held (frames_answer rows so_far.past (left now records octets)).report begun)
 
+-- memory was wanting, and what waited was handed on, unless the sink failed
+pub wants_memory : (start now : Seen) (rows : List Row) (audit : AuditState) (records : ReaderState) (held : List ℕ) (old mid new : Option (List ℕ)) (status : Status)
+    → SoFar start now rows audit records held old mid → Answers (record { report = held; status = NoMemory }) status mid new
+    → WhereTold start (λ octets. Answers (frames_answer rows [] (records_of octets)) status old new)
+wants_memory start now rows audit records held old mid new status so_far said octets has = by_status status said where
+  begun : AppendsPrefix mid new held → AppendsPrefix old new (frames_answer rows [] (records_of octets)).report
+  begun part = stops start now rows audit records held old mid new so_far part octets has
+
+  by_status : (status : Status) → Answers (record { report = held; status = NoMemory }) status mid new → Answers (frames_answer rows [] (records_of octets)) status old new
+  by_status Done said = absurd cc
+  by_status Alarm said = absurd cc
+  by_status Usage said = absurd cc
+  by_status Refused said = absurd cc
+  by_status ReadFault said = begun said
+  by_status WriteFault said = begun said
+  by_status NoMemory said = begun said
+
 -- the sink failed at the line of one more record
 pub stops_at_line : (start now later : Seen) (rows : List Row) (audit next : AuditState) (records following : ReaderState) (held : List ℕ)
     (old mid new : Option (List ℕ)) (octets apdu : List ℕ) (time : Option ℤ) (line : Line)
@@ -182,7 +199,7 @@ refuses start now later rows audit records held old mid new status fault so_far 
   by_fault (fault_.LongLine number) is said = at_text (fault_.LongLine number) is said
   by_fault (fault_.TooMany number) is said = at_text (fault_.TooMany number) is said
   by_fault fault_.ReadFault is said = λ all has. subst (λ s. Answers (frames_answer rows [] (records_of all)) s old new) (sym said.0) (stops start now rows audit records held old mid new so_far said.1 all has)
-  by_fault fault_.NoMemory is said = λ all has. subst (λ s. Answers (frames_answer rows [] (records_of all)) s old new) (sym said.0) (stops start now rows audit records held old mid new so_far said.1 all has)
+  by_fault fault_.NoMemory is said = λ all has. wants_memory start now rows audit records held old mid new status so_far said all has
 
 -- the file was read to its end
 pub reads_to_end : (start now later : Seen) (held kept : List ℕ) → start.place ≡ 0 → GoesOn start now [] held 0 → GoesOn now later held kept 0

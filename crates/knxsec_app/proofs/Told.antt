@@ -4,7 +4,7 @@ use Rattle.std.specs.Prelude.{if◌then◌else◌, unwrap_or, codes}
 use Rattle.std.specs.Option.{IsSomeAnd, option_map}
 use Rattle.std.proofs.lemmas.Bool.Decides.{nat_tests}
 use Rattle.knx_base.specs.Files.{File, Seen, Holds, IsThere, octets_named}
-use Rattle.knx_base.specs.Reading.{ReadsWhole}
+use Rattle.text_lines.specs.Reading.{ReadsWhole}
 use Rattle.knxsec_app.specs.Answer.{Answer}
 use Rattle.knxsec_app.specs.declared.whole_file.WholeFile.{WholeFile}
 use Rattle.knxsec_app.specs.Auditing.{most_of, word_of, within}

@@ -1,8 +1,8 @@
 -- What an audit answers: a line for each record, by those before it, and the total.
 use Rattle.std.specs.Prelude.{ℕ, ◌==◌, nat_lt, if◌then◌else◌, List, [], ◌∷◌, length, codes, Option, Some, None, Result, Ok, Err}
 use Rattle.std.specs.Str.Lines.{lines}
-use Rattle.knx_base.specs.declared.whole_file.FileFault.{FileFault}
-use Rattle.knx_base.specs.declared.whole_file.FileFault.TheVariants as unread
+use Rattle.text_lines.specs.declared.whole_file.FileFault.{FileFault}
+use Rattle.text_lines.specs.declared.whole_file.FileFault.TheVariants as unread
 use Rattle.key_tables.specs.declared.types.Row.{Row}
 use Rattle.key_tables.specs.declared.faults.TablesFault.{TablesFault}
 use Rattle.key_tables.specs.declared.faults.BuildFault.{BuildFault}

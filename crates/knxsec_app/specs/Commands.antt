@@ -99,3 +99,7 @@ abbrev pub IsServed : Status → Type 0
 IsServed ReadFault = ⊥
 IsServed NoMemory = ⊥
 IsServed _ = Unit {0}
+
+-- neither files nor memory were asked
+abbrev pub LeavesAlone : Status → Type 0
+LeavesAlone status = (status ≢ ReadFault) × (status ≢ NoMemory)

@@ -2,17 +2,28 @@
 use Rattle.std.specs.Prelude.{◌≡◌, ◌≢◌, ◌⊎◌, ℕ, ◌≤◌, List, length, Option, Some, IsSome, Result, Ok, Err}
 use Rattle.knx_base.specs.Faults.{Rose}
 use Rattle.knx_base.specs.Files.{Seen}
-use Rattle.knx_base.specs.Reading.{WhereTold}
+use Rattle.text_lines.specs.Reading.{WhereTold}
 use Rattle.knxsec_app.specs.declared.status.Status.{Status}
 use Rattle.knxsec_app.specs.declared.status.Status.TheVariants.{Done, Usage, ReadFault, WriteFault, NoMemory}
 use Rattle.knxsec_app.specs.Answer.{Answer, Answers}
 use Rattle.knxsec_app.specs.Commands.{IsServed, Stays}
+
+-- A fault of reading or of writing is answered only where its count rose, and neither count falls. The files' count rises only where a
+-- fault of reading is answered, and the sink's only where one of the two is: all else was answered without a fault.
+pub record IsCounted (seen later_seen : Seen) (before now : ℕ) (status : Status) : Type 0 where
+  pub read_fault : status ≡ ReadFault → Rose seen.faults later_seen.faults
+  pub write_fault : status ≡ WriteFault → Rose before now
+  pub files_kept : status ≢ ReadFault → later_seen.faults ≡ seen.faults
+  pub kept : status ≢ ReadFault → status ≢ WriteFault → now ≡ before
+  pub files_later : seen.faults ≤ later_seen.faults
+  pub later : before ≤ now
 
 -- by a sink alone, whose counts of faults these are
 pub record EndsWriting (before now : ℕ) (status : Status) : Type 0 where
   pub no_reading : status ≢ ReadFault
   pub no_memory : status ≢ NoMemory
   pub write_fault : status ≡ WriteFault → Rose before now
+  pub kept : status ≢ WriteFault → now ≡ before
   pub later : before ≤ now
 
 -- by a sink and memory
@@ -20,15 +31,20 @@ pub record EndsTelling (before now : ℕ) (status : Status) : Type 0 where
   pub no_usage : status ≢ Usage
   pub no_reading : status ≢ ReadFault
   pub write_fault : status ≡ WriteFault → Rose before now
+  pub kept : status ≢ WriteFault → now ≡ before
+  pub later : before ≤ now
+
+-- by a sink and memory, after a fault of reading too
+pub record EndsPage (before now : ℕ) (status : Status) : Type 0 where
+  pub no_usage : status ≢ Usage
+  pub write_fault : status ≡ WriteFault → Rose before now
+  pub kept : status ≢ ReadFault → status ≢ WriteFault → now ≡ before
   pub later : before ≤ now
 
 -- by files, a sink and memory
 pub record EndsReading (seen later_seen : Seen) (before now : ℕ) (status : Status) : Type 0 where
   pub no_usage : status ≢ Usage
-  pub read_fault : status ≡ ReadFault → Rose seen.faults later_seen.faults
-  pub write_fault : status ≡ WriteFault → Rose before now
-  pub files_later : seen.faults ≤ later_seen.faults
-  pub later : before ≤ now
+  pub counted : IsCounted seen later_seen before now status
 
 -- The current file was read from its start to its end, and no other file.
 pub record ReadsToEnd (old new : Seen) : Type 0 where

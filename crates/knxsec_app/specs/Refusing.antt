@@ -78,8 +78,8 @@ EndsMerged build.NoMemory ended old new = (ended ≡ status.NoMemory) × (new �
 EndsMerged fault ended old new = Answers (refused (codes "keyring") (codes " many")) ended old new
 
 -- What is answered where the reader of a list of frames ends with this fault: what waited, and then the refusal; or that the
--- files failed, or that memory was wanting.
+-- files failed; or that memory was wanting, unless the sink did not take what waited.
 abbrev pub EndsList : RecordFault → List ℕ → Status → Option (List ℕ) → Option (List ℕ) → Type 0
 EndsList record_.ReadFault held ended old new = (ended ≡ status.ReadFault) × AppendsPrefix old new held
-EndsList record_.NoMemory held ended old new = (ended ≡ status.NoMemory) × AppendsPrefix old new held
+EndsList record_.NoMemory held ended old new = Answers (record { report = held; status = status.NoMemory }) ended old new
 EndsList fault held ended old new = Answers (after held (refused (codes "frames") (frames_reason fault))) ended old new

@@ -1,7 +1,7 @@
 ghost use Rattle.std.specs.Prelude.{◌≡◌, ◌≢◌, ℕ, List, [], length, IsSome, Some, Ok, IsOk, IsErr, IfOk, OnOk, IfErr, MatchResult};
 ghost use Rattle.std.specs.Option.{ForSome};
 ghost use Rattle.knx_base.specs.Files.{File, Seen, Holds, IsThere};
-ghost use Rattle.knx_base.specs.Reading.{WhereTold};
+ghost use Rattle.text_lines.specs.Reading.{WhereTold};
 ghost use Rattle.key_tables.specs.Build.{build_fault, merged};
 ghost use Rattle.frame_file.specs.Records.{records_of};
 ghost use Rattle.knxsec_app.specs.Answer.{Answers};
@@ -13,7 +13,7 @@ ghost use Rattle.knxsec_app.specs.Ends.{EndsReading, EndsTelling, OthersStay, Re
 use crate::Status;
 use crate::page::Page;
 use crate::refusing::{refuse_merged, refuse_tables};
-use crate::report::{finish, finish_frames, pass_line, stop};
+use crate::report::{finish, finish_frames, pass_line, stop_without_memory};
 use crate::whole_file::WholeFile;
 use audit_core::Audit;
 use frame_file::Records;
@@ -181,7 +181,7 @@ fn audit_current<F: Files, S: Sink>(
         match records.next(files) {
             Ok(Some(record)) => {
                 let Ok(line) = audit.frame(record.octets, &mut apdu) else {
-                    return stop(Status::NoMemory, &mut page, out);
+                    return stop_without_memory(&mut page, out);
                 };
                 let Ok(()) = pass_line(&line, record.time, &apdu, &mut page, out) else {
                     return Status::WriteFault;

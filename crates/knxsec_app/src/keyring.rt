@@ -15,7 +15,8 @@ use crate::refusing::refuse_keyring;
 use crate::whole_file::WholeFile;
 use crate::words::KeyringNames;
 use keyring_reader::{Keyring, read_keyring};
-use knx_base::{Files, Lines, Sink};
+use knx_base::{Files, Sink};
+use text_lines::Lines;
 use std::alloc::Global;
 
 /// Judges the records of a file under tables and, where they say nothing of a channel, under the rows of a keyring.

@@ -1,9 +1,9 @@
-ghost use Rattle.std.specs.Prelude.{◌≡◌, ◌≢◌, ◌≤◌, ℕ, List, Some, None};
+ghost use Rattle.std.specs.Prelude.{◌≡◌, ℕ, List, Some, None};
 ghost use Rattle.std.specs.Option.{ForSome};
 ghost use Rattle.knx_base.specs.Files.{File};
 ghost use Rattle.knxsec_app.specs.Answer.{Answers};
 ghost use Rattle.knxsec_app.specs.Asked.{asked_of};
-ghost use Rattle.knxsec_app.specs.Commands.{answer_to, AreFiles, AreRead, AreThere, AreUnopened, IsServed, IsWhole, NamesNoFile};
+ghost use Rattle.knxsec_app.specs.Commands.{answer_to, AreFiles, AreRead, AreThere, AreUnopened, IsServed, IsWhole, LeavesAlone, NamesNoFile};
 ghost use Rattle.knxsec_app.specs.Ends.{EndsReading, EndsWriting};
 
 use crate::Status;
@@ -31,8 +31,7 @@ pub(crate) fn obey<F: Files, S: Sink>(
         → AreUnopened (Some (asked_of command.now)) told (F.seen files.old) (F.seen files.new) }
     ensures told { (F.seen files.new).told ≡ (F.seen files.old).told }
     ensures ends { EndsReading (F.seen files.old) (F.seen files.new) (S.faults out.old) (S.faults out.new) result }
-    ensures no_memory { NamesNoFile (Some (asked_of command.now)) → result ≢ Status.NoMemory }
-    ensures no_reading { NamesNoFile (Some (asked_of command.now)) → result ≢ Status.ReadFault }
+    ensures alone { NamesNoFile (Some (asked_of command.now)) → LeavesAlone result }
     ensures unread { NamesNoFile (Some (asked_of command.now)) → files.new ≡ files.old }
 {
     match command {

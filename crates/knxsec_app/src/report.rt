@@ -1,12 +1,11 @@
-ghost use Rattle.std.specs.Prelude.{◌≡◌, ◌≢◌, ◌≤◌, ◌⊎◌};
-ghost use Rattle.std.specs.Io.KnownBytes.{append_known};
-ghost use Rattle.knx_base.specs.Faults.{HasCause, Rose};
+ghost use Rattle.std.specs.Prelude.{◌≡◌, ◌≤◌};
+ghost use Rattle.knx_base.specs.Faults.{HasCause};
 ghost use Rattle.knx_base.specs.Sink.{Prints, AppendsPrefix};
 ghost use Rattle.audit_core.specs.Text.{line_text, total_text};
 ghost use Rattle.knxsec_app.specs.Answer.{Answer, Answers, after};
 ghost use Rattle.knxsec_app.specs.Auditing.{total_status};
-ghost use Rattle.knxsec_app.specs.Ends.{EndsWriting};
-ghost use Rattle.knxsec_app.specs.Page.{Passes};
+ghost use Rattle.knxsec_app.specs.Ends.{EndsPage, EndsTelling, EndsWriting};
+ghost use Rattle.knxsec_app.specs.Page.{HandsOn, Passes};
 ghost use Rattle.knxsec_app.specs.Commands.{IsWhole};
 ghost use Rattle.knxsec_app.specs.Refusing.{EndsList};
 
@@ -66,10 +65,10 @@ fn total_status(audit: &Audit) -> Status
 pub(crate) fn finish_frames<S: Sink>(fault: &RecordFault, page: &mut Page, out: &mut S) -> Status
     ensures answer { EndsList fault.now page.old.held result (S.octets out.old) (S.octets out.new) }
     ensures read_fault { result ≡ Status.ReadFault → fault.now ≡ RecordFault.ReadFault }
+    ensures only_read_fault { fault.now ≡ RecordFault.ReadFault → result ≡ Status.ReadFault }
+    ensures handed { result ≡ Status.ReadFault → HandsOn page.old.held (S.octets out.old) (S.octets out.new) (S.faults out.old) (S.faults out.new) }
     ensures memory { result ≡ Status.NoMemory → fault.now ≡ RecordFault.NoMemory }
-    ensures write_fault { result ≡ Status.WriteFault → Rose (S.faults out.old) (S.faults out.new) }
-    ensures later { S.faults out.old ≤ S.faults out.new }
-    ensures no_usage { result ≢ Status.Usage }
+    ensures ends { EndsPage (S.faults out.old) (S.faults out.new) result }
     ensures not_whole { IsWhole result → ⊥ }
 {
     match fault {
@@ -80,8 +79,8 @@ pub(crate) fn finish_frames<S: Sink>(fault: &RecordFault, page: &mut Page, out: 
             finish_refused(&line_at("frames", *line, "long"), page, out)
         }
         RecordFault::TooMany(line) => finish_refused(&line_at("frames", *line, "many"), page, out),
-        RecordFault::ReadFault => stop(Status::ReadFault, page, out),
-        RecordFault::NoMemory => stop(Status::NoMemory, page, out),
+        RecordFault::ReadFault => stop_unread(page, out),
+        RecordFault::NoMemory => stop_without_memory(page, out),
     }
 }
 
@@ -96,14 +95,24 @@ fn finish_refused<S: Sink>(line: &LineBuf, page: &mut Page, out: &mut S) -> Stat
     }
 }
 
-/// Hands on what waits where the report can't go on, as far as the sink takes it.
+/// Hands on what waits where the files failed, as far as the sink takes it.
 #[tactic(auto, using(crate::proofs::Answering::handed_or_rose))]
-pub(crate) fn stop<S: Sink>(status: Status, page: &mut Page, out: &mut S) -> Status
-    ensures status { result ≡ status }
+fn stop_unread<S: Sink>(page: &mut Page, out: &mut S) -> Status
+    ensures status { result ≡ Status.ReadFault }
     ensures text { AppendsPrefix (S.octets out.old) (S.octets out.new) page.old.held }
-    ensures handed { (S.octets out.new ≡ append_known (S.octets out.old) page.old.held) ⊎ Rose (S.faults out.old) (S.faults out.new) }
+    ensures handed { HandsOn page.old.held (S.octets out.old) (S.octets out.new) (S.faults out.old) (S.faults out.new) }
     ensures later { S.faults out.old ≤ S.faults out.new }
 {
     let _ = page.hand_on(out);
-    status
+    Status::ReadFault
+}
+
+/// Hands on what waits where memory is wanting. A sink that does not take it is the fault that is told.
+pub(crate) fn stop_without_memory<S: Sink>(page: &mut Page, out: &mut S) -> Status
+    ensures answer { Answers (record { report = page.old.held; status = Status.NoMemory }) result (S.octets out.old) (S.octets out.new) }
+    ensures text { AppendsPrefix (S.octets out.old) (S.octets out.new) page.old.held }
+    ensures ends { EndsTelling (S.faults out.old) (S.faults out.new) result }
+    ensures not_whole { IsWhole result → ⊥ }
+{
+    ended(page.hand_on(out), Status::NoMemory)
 }

@@ -1,11 +1,11 @@
-ghost use Rattle.std.specs.Prelude.{◌≡◌, ◌≢◌, ◌≤◌, ℕ, List, map, Option, None};
+ghost use Rattle.std.specs.Prelude.{◌≡◌, ◌≢◌, ℕ, List, map, Option, None};
 ghost use Rattle.std.specs.Option.{ForSome};
 ghost use Rattle.std.specs.String.{string_bytes};
-ghost use Rattle.knx_base.specs.Faults.{Rose};
 ghost use Rattle.knx_base.specs.Files.{File};
 ghost use Rattle.knxsec_app.specs.Words.{command_of};
 ghost use Rattle.knxsec_app.specs.Answer.{Answers};
-ghost use Rattle.knxsec_app.specs.Commands.{answer_of, AreFiles, AreRead, AreThere, AreUnopened, IsServed, IsWhole, NamesNoFile};
+ghost use Rattle.knxsec_app.specs.Commands.{answer_of, AreFiles, AreRead, AreThere, AreUnopened, IsServed, IsWhole, LeavesAlone, NamesNoFile};
+ghost use Rattle.knxsec_app.specs.Ends.{IsCounted};
 
 use crate::Status;
 use crate::obey::{obey, print_usage};
@@ -43,17 +43,11 @@ pub fn run<F: Files, S: Sink>(alloc: Global, words: &[String], files: &mut F, ou
     // Words of no form alone are answered by the usage line.
     ensures usage { result ≡ Status.Usage → command_of (map string_bytes words.now) ≡ None }
 
-    // A fault is answered only where its cause was counted in this call.
-    ensures read_fault { result ≡ Status.ReadFault → Rose (F.seen files.old).faults (F.seen files.new).faults }
-    ensures write_fault { result ≡ Status.WriteFault → Rose (S.faults out.old) (S.faults out.new) }
-
-    // Neither count of faults falls.
-    ensures later { S.faults out.old ≤ S.faults out.new }
-    ensures files_later { (F.seen files.old).faults ≤ (F.seen files.new).faults }
+    // A fault is answered where it was counted in this call, and nowhere else is one counted.
+    ensures counted { IsCounted (F.seen files.old) (F.seen files.new) (S.faults out.old) (S.faults out.new) result }
 
     // A command that names no file takes no memory and leaves the files alone.
-    ensures no_memory { NamesNoFile (command_of (map string_bytes words.now)) → result ≢ Status.NoMemory }
-    ensures no_reading { NamesNoFile (command_of (map string_bytes words.now)) → result ≢ Status.ReadFault }
+    ensures alone { NamesNoFile (command_of (map string_bytes words.now)) → LeavesAlone result }
     ensures unread { NamesNoFile (command_of (map string_bytes words.now)) → files.new ≡ files.old }
 {
     match read_words(words) {

@@ -13,6 +13,7 @@ cause_goes_on : {answer : Option NvmFault} {a b c : State} → HasNvmCause None 
 cause_goes_on first then = record {
   faults = omega arith;
   cuts = omega arith;
+  kept = λ is. let now = then.kept is in let before = first.kept refl in (now.0 ∙ before.0, now.1 ∙ before.1);
   failed = λ is. omega (arith, then.failed is);
   cut = λ is. elim (then.cut is) [ inl rose ↦ inl (omega arith) | inr off ↦ absurd cc ];
   off = λ off. absurd (cc (first.off off));

@@ -40,9 +40,11 @@ is_on_after (Some Failed) = true
 is_on_after (Some Cut) = false
 
 -- Each fault has its cause: Failed a count of faults that rose in this call, Cut a count of cuts that did, or power that was off.
+-- Ok leaves both counts as they were.
 pub record HasNvmCause (answer : Option NvmFault) (old new : State) : Type 0 where
   pub faults : old.faults ≤ new.faults
   pub cuts : old.cuts ≤ new.cuts
+  pub kept : answer ≡ None → (new.faults ≡ old.faults) × (new.cuts ≡ old.cuts)
   pub failed : answer ≡ Some Failed → Rose old.faults new.faults
   pub cut : answer ≡ Some Cut → Rose old.cuts new.cuts ⊎ (old.powered ≡ false)
   -- without power every call answers Cut

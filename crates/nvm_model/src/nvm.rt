@@ -7,7 +7,8 @@ use crate::NvmFault;
 ///
 /// A cut inside a write leaves any octets in the range of that write and all others as they were, and so does a write that
 /// answers Failed. A call answers Failed only where the count of faults rose in it, and Cut only where the count of cuts rose
-/// in it or power was off before it. A call that answers Cut leaves power off, and every other leaves it on.
+/// in it or power was off before it; Ok leaves both counts as they were. A call that answers Cut leaves power off, and every
+/// other leaves it on.
 ///
 /// What a cut may have left is told by `images`, for any moment since a value of the clock, so that the contract of a call
 /// speaks of each moment inside it, whatever it answers. A memory may be cut inside a write that it answers Ok or Failed.

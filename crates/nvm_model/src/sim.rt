@@ -86,6 +86,13 @@ impl SimNvm {
         self.powered = false;
     }
 
+    /// Power is on.
+    pub fn is_on(&self) -> bool
+        ensures on { result ≡ (sim_state self.now).powered }
+    {
+        self.powered
+    }
+
     /// All octets, with power on or off.
     pub fn image(&self) -> &[u8]
         ensures octets { result.now ≡ (sim_state self.now).octets }

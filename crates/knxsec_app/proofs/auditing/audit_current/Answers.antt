@@ -1,10 +1,10 @@
 use Rattle.std.proofs.Common.{rules, arith, ◌+◌, [], ap, sym, subst, ◌∙◌}
 use Rattle.knx_base.specs.Files.{Seen}
-use Rattle.knx_base.proofs.Readers.{goes_then, takes_less}
+use Rattle.text_lines.proofs.Readers.{goes_then, takes_less}
 use Rattle.knxsec_app.specs.Answer.{Answers}
 use Rattle.frame_file.specs.Records.{records_of}
 use Rattle.knxsec_app.specs.Auditing.{frames_answer}
-use Rattle.knxsec_app.proofs.SoFar.{goes_on, stops, stops_at_line, finishes, refuses, reads_to_end, some_given, none_given, fault_given, gives_told, first_left}
+use Rattle.knxsec_app.proofs.SoFar.{goes_on, wants_memory, stops_at_line, finishes, refuses, reads_to_end, some_given, none_given, fault_given, gives_told, first_left}
 use Rattle.knxsec_app.proofs.auditing.audit_current.Goals as goal
 
 pub records-preserved : goal.records-preserved
@@ -22,15 +22,12 @@ records-preserved g c =
       few = given.0.gives.few;
       so_far = goes_on start now later _ _ _ _ _ _ _ _ _ _ _ _ c.in-Ok-Some.record.time c.in-Ok-frame.line before.so_far before.goes (first_left now later _ _ _ _ given.0)
           (λ past knows. (c.in-Ok-frame.ensures.line past knows, c.in-Ok-frame.ensures.knows past knows)) c.frame.ensures.rows c.in-Ok-frame.ensures.opened given.1 c.in-Ok-pass_line.ensures.text;
-      files_later = search rules;
-      later = search rules;
+      kept = search rules;
     }
 
 pub returns-in_default-frame-clause-answer : goal.returns-in_default-frame-clause-answer
 returns-in_default-frame-clause-answer g c octets has =
-    let before = c.records.invariant in
-    subst (λ status. Answers (frames_answer c.args.tables [] (records_of octets)) status (g.S.Sink.octets c.args.out.now) (g.S.Sink.octets c.stop.new.out)) (sym c.stop.ensures.status)
-    (stops (g.F.Files.seen c.args.files.now) (g.F.Files.seen c.records.files) _ _ _ _ _ _ _ before.so_far c.stop.ensures.text octets has)
+    wants_memory (g.F.Files.seen c.args.files.now) (g.F.Files.seen c.records.files) _ _ _ _ _ _ _ _ c.records.invariant.so_far c.stop_without_memory.ensures.answer octets has
 
 pub returns-in_default-pass_line-clause-answer : goal.returns-in_default-pass_line-clause-answer
 returns-in_default-pass_line-clause-answer g c =

@@ -1,5 +1,5 @@
 use Rattle.std.proofs.Common.{◌≡◌, ◌≤◌, [], None}
-use Rattle.knx_base.specs.Reading.{GoesOn, to_come}
+use Rattle.text_lines.specs.Reading.{GoesOn, to_come}
 use Rattle.frame_file.specs.Reader.{IsAt}
 use Rattle.knxsec_app.proofs.SoFar.{SoFar}
 use Rattle.knxsec_app.proofs.auditing.audit_current.Given as goal
@@ -12,8 +12,7 @@ invariant-records g l = record {
   counted : l.audit.total.records ≡ l.records.reader.given;
   few : l.records.reader.given ≤ 10000000;
   so_far : SoFar (g.F.Files.seen l.fn.files) (g.F.Files.seen l.files) l.fn.tables l.audit l.records.reader l.page.held (g.S.Sink.octets l.fn.out) (g.S.Sink.octets l.out);
-  files_later : (g.F.Files.seen l.fn.files).faults ≤ (g.F.Files.seen l.files).faults;
-  later : g.S.Sink.faults l.fn.out ≤ g.S.Sink.faults l.out;
+  kept : g.S.Sink.faults l.out ≡ g.S.Sink.faults l.fn.out;
 }
 
 abbrev pub decreases-records : goal.decreases-records

@@ -1,5 +1,5 @@
-use Rattle.std.proofs.Common.{◌≡◌, ◌≤◌}
-use Rattle.knx_base.specs.Reading.{GoesOn, WhereTold, to_come}
+use Rattle.std.proofs.Common.{◌≡◌}
+use Rattle.text_lines.specs.Reading.{GoesOn, WhereTold, to_come}
 use Rattle.frame_file.specs.Reader.{IsAt, left}
 use Rattle.frame_file.specs.State.{state_of}
 use Rattle.frame_file.proofs.reader.Reader.advance.Given as goal
@@ -10,7 +10,6 @@ invariant-lines g l = record {
   at : IsAt (g.F.Files.seen l.files) (state_of l.self);
   counted : (state_of l.self).given ≡ (state_of l.fn.self).given;
   left_is : WhereTold (g.F.Files.seen l.fn.files) (λ octets. left (g.F.Files.seen l.fn.files) (state_of l.fn.self) octets ≡ left (g.F.Files.seen l.files) (state_of l.self) octets);
-  later : (g.F.Files.seen l.fn.files).faults ≤ (g.F.Files.seen l.files).faults;
 }
 
 abbrev pub decreases-lines : goal.decreases-lines

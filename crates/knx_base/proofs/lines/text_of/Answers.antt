@@ -1,6 +1,0 @@
-use Rattle.std.proofs.Common.{rules}
-use Rattle.knx_base.proofs.LineTexts.{text_is_utf8}
-use Rattle.knx_base.proofs.lines.text_of.Goals as goal
-
-pub returns : goal.returns
-returns c = let utf8 = text_is_utf8 c.args.word.now c.requires.text in search (rules, utf8)

@@ -1,0 +1,5 @@
+mod LineTexts
+mod LineSays
+pub mod Readers
+mod LineReads
+mod WholeFiles
