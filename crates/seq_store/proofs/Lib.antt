@@ -1,7 +1,10 @@
 pub mod Bound
 pub mod Cells
 pub mod Formatting
+pub mod Keeping
+pub mod Living
 pub mod Raises
 pub mod Restored
 pub mod Running
 pub mod Starts
+pub mod Strikes

@@ -54,6 +54,7 @@ runs_none {n = n} {a = a} on restores = record {
     cause = record {
       faults = omega arith;
       cuts = omega arith;
+      kept = λ _. (refl, refl);
       failed = λ is. absurd cc;
       cut = λ is. absurd cc;
       off = λ off. absurd (cc (on, off));

@@ -1,8 +1,10 @@
 pub mod Agrees
 pub mod Calls
 pub mod Draws
+pub mod Keeps
 pub mod Laws
 pub mod Layout
+pub mod Lives
 pub mod Refusal
 pub mod Runs
 pub mod Store

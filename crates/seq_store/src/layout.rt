@@ -4,13 +4,21 @@ ghost use Rattle.nvm_model.specs.Nvm.{Makes, Reads, fault_of};
 ghost use Rattle.nvm_model.specs.Plan.{unarmed};
 ghost use Rattle.mark_cells.specs.Cell.{reading};
 ghost use Rattle.seq_store.specs.Refusal.{reading_fault};
-ghost use Rattle.seq_store.specs.Laws.{Ready, Restores, MayRaise, HasRaiseLaws, Raises};
+ghost use Rattle.seq_store.specs.Laws.{Restores, MayRaise, Raises};
 ghost use Rattle.seq_store.specs.Layout.{most_lanes, store_size, place_of, value_of, formatted_memory, formatting_writes};
 
 use crate::StoreFault;
 use knx_base::Number48;
 use mark_cells::{CELL_SIZE, CellFault, cell_reading, format_cell, raise_cell, read_cell};
 use nvm_model::{Nvm, NvmFault};
+
+/// The number of octets of a memory of so many lanes.
+pub fn store_size(lanes: usize) -> usize
+    requires lanes_fit { lanes ≤ most_lanes }
+    ensures size { result ≡ store_size lanes }
+{
+    CELL_SIZE * (1 + lanes)
+}
 
 // The place of the cell of this value.
 #[tactic(auto, unfolding(crate::specs::Layout::place_of))]
@@ -71,7 +79,6 @@ pub fn stored_value(image: &[u8], lanes: usize, value: usize) -> Option<Number48
     requires in_range { value ≤ lanes }
 
     ensures value { result ≡ value_of lanes image.now value }
-    ensures raises { (n : ℕ) → MayRaise lanes image.now value n → HasRaiseLaws lanes image.now value n }
 {
     let at = place_of(lanes, value);
     let mut cell = [0; CELL_SIZE];
@@ -93,10 +100,6 @@ pub fn format_store<M: Nvm>(
     ensures restores { OnOk result (Restores (M.state memory.new).octets reserved marks.now) }
     ensures unarmed { (M.state memory.old).plan ≡ Some unarmed → (M.state memory.old).powered ≡ true
         → IsOk result × ((M.state memory.new).plan ≡ Some unarmed) }
-
-    // Every formatted memory restores its numbers.
-    ensures each_restores { (last : ℕ) (numbers : List ℕ) → last < 2 ^ 48 → All (λ n. n < 2 ^ 48) numbers
-        → Restores (formatted_memory last numbers) last numbers × Ready (length numbers) (formatted_memory last numbers) }
 {
     format_cells(memory, reserved, marks)
 }

@@ -11,11 +11,13 @@
 #![tactic(auto)]
 
 mod fault;
+mod law;
 mod layout;
 mod store;
 #[cfg(test)]
 mod tests;
 
 pub use fault::{DrawFault, StoreFault, StoreRefused};
-pub use layout::{format_store, stored_value};
+pub use law::{layout_laws, numbers_are_fresh, raises_keep_numbers};
+pub use layout::{format_store, store_size, stored_value};
 pub use store::SeqStore;

@@ -1,5 +1,5 @@
 use Rattle.nvm_model.proofs.Runs.{makes_unarmed}
-use Rattle.seq_store.proofs.Formatting.{formats, formats_restoring, formatted_law}
+use Rattle.seq_store.proofs.Formatting.{formats, formats_restoring}
 use Rattle.seq_store.proofs.layout.format_store.Goals as goal
 
 pub returns-clause-formatted : goal.returns-clause-formatted
@@ -12,6 +12,3 @@ returns-clause-restores g c =
 
 pub returns-clause-unarmed : goal.returns-clause-unarmed
 returns-clause-unarmed g c = makes_unarmed c.format_cells.result c.format_cells.ensures.makes
-
-pub returns-clause-each_restores : goal.returns-clause-each_restores
-returns-clause-each_restores g c = formatted_law
