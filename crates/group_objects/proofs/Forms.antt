@@ -1,6 +1,5 @@
 -- A value of the same form in the place of another keeps the forms of all.
-use Rattle.std.proofs.Common.{◌≡◌, ℕ, ◌<◌, Bool, true, List, map, length, slice_get, slice_set, Option, Some, None, option_map, IfSome, refl, sym, ap, ◌∙◌, arith, ⊎_elim, subst}
-use Rattle.std.specs.Bool.{beq}
+use Rattle.std.proofs.Common.{◌≡◌, ℕ, ◌<◌, true, List, map, length, slice_get, slice_set, Some, option_map, IfSome, sym, ap, ◌∙◌, arith, ⊎_elim, subst}
 use Rattle.std.specs.Cmp.{booleans_Decides}
 use Rattle.std.proofs.lemmas.Bool.{and_parts, eqb-true}
 use Rattle.std.proofs.lemmas.List.{map-set, set-get_or, length-map}

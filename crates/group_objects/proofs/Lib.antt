@@ -1,3 +1,4 @@
 mod Forms
 mod Apart
 mod Reading
+mod Asking

@@ -1,7 +1,7 @@
--- Application PDUs that carry a value of a group object (ISO/IEC 14543-3-1, the services of group values). This is statement.
+-- Application PDUs that carry a value of a group object (ISO/IEC 14543-3-1, the services of group values). This is
+-- statement.
 use Rattle.std.specs.Prelude.{◌≡◌, ℕ, ◌+◌, List, [], slice_index, if◌then◌else◌, Bool, true, false, Ok}
 use Rattle.plain_apdu.specs.declared.service.Service.{Service}
-use Rattle.plain_apdu.specs.declared.service.Service.TheVariants.{GroupValueRead, GroupValueResponse, GroupValueWrite}
 use Rattle.plain_apdu.specs.Service as services
 use Rattle.plain_apdu.specs.Apdu.{Inner, inner_of, apdu_of, apci_of}
 use Rattle.group_objects.specs.declared.service.SendService.{SendService}
@@ -31,7 +31,8 @@ pub record Carries (service : Service) (value : ObjectValue) (apdu : List ℕ) :
 
 -- the value under the code of its service
 abbrev pub carrying : ℕ → ObjectValue → List ℕ
-carrying code value = if value.is_bits then apdu_of (code + slice_index value.octets 0) [] else apdu_of code value.octets
+carrying code value =
+    if value.is_bits then apdu_of (code + slice_index value.octets 0) [] else apdu_of code value.octets
 
 -- the PDU of a service for an object of this value; a read has none
 abbrev pub service_apdu : SendService → ObjectValue → List ℕ

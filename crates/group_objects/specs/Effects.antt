@@ -1,5 +1,5 @@
 -- What an application PDU does to a group object. This is statement.
-use Rattle.std.specs.Prelude.{◌≡◌, ℕ, ◌<◌, ◌≤◌, ◌⊎◌, List, length, slice_index, Bool, true, false, Result, Ok, Err}
+use Rattle.std.specs.Prelude.{◌≡◌, ℕ, ◌<◌, ◌≤◌, ◌⊎◌, List, length, slice_index, Bool, true, false, Result, Ok, Err, IfOk}
 use Rattle.plain_apdu.specs.declared.object.BadObject.{BadObject}
 use Rattle.plain_apdu.specs.declared.object.BadObject.TheVariants as bad
 use Rattle.plain_apdu.specs.declared.service.Service.{Service}
@@ -53,13 +53,21 @@ pub record IsGroupApdu (apdu : List ℕ) : Type 0 where
   pub two : 2 ≤ length apdu
   pub most : length apdu ≤ 242
   pub upper : slice_index apdu 0 < 4
-  pub group : (service_in apdu ≡ GroupValueRead) ⊎ (service_in apdu ≡ GroupValueWrite) ⊎ (service_in apdu ≡ GroupValueResponse)
+  pub group : (service_in apdu ≡ GroupValueRead) ⊎ (service_in apdu ≡ GroupValueWrite)
+      ⊎ (service_in apdu ≡ GroupValueResponse)
 
 -- the PDU asks for this effect: a read is of the service, and a value that is written is the one that the PDU carries
 abbrev pub AsksFor : List ℕ → Effect → Type 0
 AsksFor apdu effect.Read = service_in apdu ≡ GroupValueRead
 AsksFor apdu (effect.Write value) = Carries GroupValueWrite value apdu
 AsksFor apdu (effect.Response value) = Carries GroupValueResponse value apdu
+
+-- What is done is what the PDU asks for; and what it asks for is done where the flag allows its service and a value has
+-- the object's form.
+pub record IsExact (row : ObjectRow) (apdu : List ℕ) (answer : Result Effect BadObject) : Type 0 where
+  pub is_asked : IfOk answer (λ act. AsksFor apdu act)
+  pub is_done : (act : Effect) → AsksFor apdu act → KeepsForm row.value act
+      → is_allowed row.flags (service_in apdu) ≡ true → answer ≡ Ok act
 
 abbrev pub service_sent : SendService → Service
 service_sent send.Read = GroupValueRead
@@ -72,8 +80,9 @@ effect_sent send.Read value = effect.Read
 effect_sent send.Write value = effect.Write value
 effect_sent send.Response value = effect.Response value
 
--- What is sent for a value asks for its effect, and each object of that form that allows the service has that effect of it.
+-- What is sent for a value asks for its effect, and each object of that form that allows the service has that effect
+-- of it.
 pub record ReadsBack (service : SendService) (value : ObjectValue) (apdu : List ℕ) : Type 0 where
   pub asks : AsksFor apdu (effect_sent service value)
-  pub is_done : (row : ObjectRow) → same_form value row.value ≡ true → is_allowed row.flags (service_sent service) ≡ true
-      → accepted row apdu ≡ Ok (effect_sent service value)
+  pub is_done : (row : ObjectRow) → same_form value row.value ≡ true
+      → is_allowed row.flags (service_sent service) ≡ true → accepted row apdu ≡ Ok (effect_sent service value)

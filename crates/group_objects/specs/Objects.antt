@@ -1,5 +1,5 @@
 -- The objects of a device: which lists of rows are objects, what each holds, and what may be set. This is statement.
-use Rattle.std.specs.Prelude.{◌≡◌, ℕ, ◌<◌, ◌≤◌, ◌==◌, ◌&&◌, nat_lt, Bool, true, false, if◌then◌else◌, List, [], ◌∷◌, ◌++◌, length, map, take, slice_get, slice_set, position, AllPairs, Option, Some, None, option_map}
+use Rattle.std.specs.Prelude.{◌≡◌, ℕ, ◌==◌, nat_lt, Bool, true, false, if◌then◌else◌, List, [], ◌∷◌, ◌++◌, length, map, take, slice_get, slice_set, position, AllPairs, Option, Some, None, option_map}
 use Rattle.std.specs.List.{list_any}
 use Rattle.knx_base.specs.declared.address.GroupAddr.{GroupAddr}
 use Rattle.group_objects.specs.declared.row.ObjectRow.{ObjectRow}
@@ -44,7 +44,8 @@ first_twice before (row ∷ rows) =
     if list_any (is_of row.group) before then Some (length before) else first_twice (before ++ row ∷ []) rows
 
 abbrev pub objects_fault : List ObjectRow → Option ObjectsFault
-objects_fault rows = if nat_lt most_rows (length rows) then Some fault.TooMany else option_map fault.Twice (first_twice [] rows)
+objects_fault rows =
+    if nat_lt most_rows (length rows) then Some fault.TooMany else option_map fault.Twice (first_twice [] rows)
 
 -- no two rows are of one group
 abbrev pub NoneTwice : List ObjectRow → Type 0

@@ -1,6 +1,7 @@
 -- How a value lies in its room of 14 octets, with zeros behind it. This is plumbing for proofs.
 use Rattle.std.specs.Prelude.{◌≡◌, ℕ, ◌-◌, ◌<◌, ◌≤◌, List, ◌++◌, length, take, drop, replicate, slice_index, Bool, true}
 use Rattle.std.proofs.Common.{sym, ap, ◌∙◌, arith}
+use Rattle.std.proofs.lemmas.Grind.{common_steps}
 use Rattle.std.proofs.lemmas.List.{take-append-drop}
 use Rattle.group_objects.specs.declared.value.Value.TheInside.{Inside}
 
@@ -12,10 +13,20 @@ pub record IsPadded (bits : Bool) (n : ℕ) (store : List ℕ) : Type 0 where
   pub one : bits ≡ true → n ≡ 1
   pub six : bits ≡ true → slice_index store 0 < 64
 
+abbrev pub padded : List ℕ → List ℕ
+padded octets = octets ++ replicate (14 - length octets) 0
+
+taken : (n : ℕ) (store : List ℕ) → n ≤ 14 → length store ≡ 14 → length (take n store) ≡ n
+taken n store fits room = grind (arith, common_steps, room, fits)
+
+abbrev pub inside : Bool → ℕ → List ℕ → Inside
+inside bits size store = record { bits = bits; size = size; store = store }
+
 -- The room is its value and the zeros behind it.
-pub take_back : (a : Inside) (n : ℕ) → IsPadded a.bits a.size a.store → n ≡ a.size
-    → (let back : Inside = record { bits = a.bits; size = n; store = take a.size a.store ++ replicate (14 - n) 0 } in back) ≡ a
-take_back a n padded same =
-    ap (λ m. let back : Inside = record { bits = a.bits; size = m; store = take a.size a.store ++ replicate (14 - m) 0 } in back) same
-    ∙ ap (λ store. let back : Inside = record { bits = a.bits; size = a.size; store = store } in back)
-    (ap (λ zeros. take a.size a.store ++ zeros) (sym padded.zeros) ∙ take-append-drop a.size a.store)
+pub take_back : (a : Inside) → IsPadded a.bits a.size a.store
+    → inside a.bits (length (take a.size a.store)) (padded (take a.size a.store)) ≡ a
+take_back a is =
+    let octets = take a.size a.store in
+    let size = taken a.size a.store is.fits is.room in
+    ap (λ n. inside a.bits n (octets ++ replicate (14 - n) 0)) size
+    ∙ ap (inside a.bits a.size) (ap (λ zeros. octets ++ zeros) (sym is.zeros) ∙ take-append-drop a.size a.store)

@@ -38,4 +38,5 @@ value_in false apdu = octets_value (drop 2 apdu)
 -- the value of this form that an application PDU of its size has
 abbrev pub sized_value : ObjectValue → List ℕ → Result ObjectValue BadObject
 sized_value form apdu =
-    if length apdu == apdu_size form then Ok (value_in form.is_bits apdu) else Err (bad.Size (length apdu) (apdu_size form))
+    if length apdu == apdu_size form then Ok (value_in form.is_bits apdu)
+    else Err (bad.Size (length apdu) (apdu_size form))

@@ -1,7 +1,7 @@
 ghost use Rattle.std.specs.Prelude.{◌≡◌, ◌≢◌, ℕ, ◌↔◌, ◌<◌, ◌≤◌, None, Some, [], true, length, slice_get, option_map, IfSome, IfOk, IfErr, IsNone, IsOk, OnOk, OnErr};
 ghost use Rattle.std.specs.Result.{result_err};
 ghost use Rattle.std.specs.List.{list_any};
-ghost use Rattle.group_objects.specs.Effects.{accepted, AsksFor, IsGroupApdu, KeepsForm};
+ghost use Rattle.group_objects.specs.Effects.{accepted, IsExact, IsGroupApdu, KeepsForm};
 ghost use Rattle.group_objects.specs.Objects.{KeepsForms, IsFirstTwice, NoneTwice, at_start, first_twice, first_values, is_of, most_rows, objects_fault, place_of, set_refusal, with_value_at};
 ghost use Rattle.group_objects.specs.Value.{same_form};
 
@@ -44,7 +44,8 @@ pub enum SetFault {
     Size,
 }
 
-/// The objects of a device, each of a group of its own, and the value that each holds now. The form of a value never changes.
+/// The objects of a device, each of a group of its own, and the value that each holds now. The form of a value never
+/// changes.
 ///
 /// A contract sees the rows and the values.
 #[derive(Drop)]
@@ -73,7 +74,7 @@ impl Objects {
         ensures apart { IsOk result → NoneTwice rows.now }
         ensures fault { IfErr result (λ fault. fault ≢ ObjectsFault.NoMemory → objects_fault rows.now ≡ Some fault) }
         ensures many { result ≡ Err ObjectsFault.TooMany ↔ most_rows < length rows.now }
-        ensures twice { IfErr result (λ fault. (place : ℕ) → fault ≡ ObjectsFault.Twice place → IsFirstTwice rows.now place) }
+        ensures twice { (place : ℕ) → result ≡ Err (ObjectsFault.Twice place) → IsFirstTwice rows.now place }
     {
         if rows.len() > MOST_ROWS {
             return Err(ObjectsFault::TooMany);
@@ -117,6 +118,17 @@ impl Objects {
         ensures forms { KeepsForms self.now }
     {
         Some(*self.values.get(index)?)
+    }
+
+    /// What an application PDU of the object's group does to it, as `ObjectRow::accepts` says it.
+    pub fn accepts(&self, index: usize, apdu: &[u8]) -> Result<Effect, BadObject>
+        requires there { index < length self.now.rows }
+        requires group { IsGroupApdu apdu.now }
+        ensures effect { option_map (λ row. accepted row apdu.now) (slice_get self.now.rows index) ≡ Some result }
+        ensures form { IfSome (slice_get self.now.rows index) (λ row. IfOk result (KeepsForm row.value)) }
+        ensures exact { IfSome (slice_get self.now.rows index) (λ row. IsExact row apdu.now result) }
+    {
+        self.rows[index].accepts(apdu)
     }
 
     /// Sets the value of an object, which is to have the form of the one that it holds.

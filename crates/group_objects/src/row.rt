@@ -1,5 +1,5 @@
 ghost use Rattle.std.specs.Prelude.{◌≡◌, ◌<◌, length, slice_index, IfOk};
-ghost use Rattle.group_objects.specs.Effects.{accepted, KeepsForm};
+ghost use Rattle.group_objects.specs.Effects.{accepted, IsExact, IsGroupApdu, KeepsForm};
 ghost use Rattle.group_objects.specs.Apdus.{service_in};
 
 use crate::Value;
@@ -39,10 +39,20 @@ pub enum Effect {
 }
 
 impl ObjectRow {
-    /// What an application PDU of a group does to the object. A read needs the flag `reads`, a write `writes`, and a response
-    /// `updates`; no flag is for any other service. Without the flag the answer is `Flag`, and then, where the PDU has not
-    /// the size of those that carry a value of the object's form, `Size`.
+    /// What an application PDU of a group does to the object. A read needs the flag `reads`, a write `writes`, and a
+    /// response `updates`; no flag is for any other service. Without the flag the answer is `Flag`, and then, where the
+    /// PDU has not the size of those that carry a value of the object's form, `Size`.
+    #[tactic(auto, using(crate::proofs::Asking::is_exact))]
     pub fn accepts(&self, apdu: &[u8]) -> Result<Effect, BadObject>
+        requires short { length apdu.now < 256 }
+        ensures effect { result ≡ accepted self.now apdu.now }
+        ensures form { IfOk result (λ effect. KeepsForm self.now.value effect) }
+        ensures exact { IsGroupApdu apdu.now → IsExact self.now apdu.now result }
+    {
+        self.effect_of(apdu)
+    }
+
+    fn effect_of(&self, apdu: &[u8]) -> Result<Effect, BadObject>
         requires short { length apdu.now < 256 }
         ensures effect { result ≡ accepted self.now apdu.now }
         ensures form { IfOk result (λ effect. KeepsForm self.now.value effect) }

@@ -18,12 +18,13 @@ pub enum SendService {
 }
 
 impl SendService {
-    /// Writes the application PDU of this service for an object of this value to the front of `out`, and returns its number of
-    /// octets, 2 to 16 (ISO/IEC 14543-3-1, the services of group values). A read carries no value. Six bits stand in the
-    /// low bits of the second octet, and octets stand after it.
+    /// Writes the application PDU of this service for an object of this value to the front of `out`, and returns its
+    /// number of octets, 2 to 16 (ISO/IEC 14543-3-1, the services of group values). A read carries no value. Six bits
+    /// stand in the low bits of the second octet, and octets stand after it.
     pub fn write_apdu(self, value: &Value, out: &mut [u8]) -> usize
         requires room { 16 ≤ length out.old }
         ensures size { result ≡ length (service_apdu self value.now) }
+        ensures bounds { (2 ≤ result) × (result ≤ 16) }
         ensures octets { out.new ≡ service_apdu self value.now ++ drop result out.old }
         ensures reads_back { ReadsBack self value.now (service_apdu self value.now) }
     {
@@ -40,6 +41,7 @@ fn write_value(code: u16, value: &Value, out: &mut [u8]) -> usize
     requires code { code < 960 }
     requires room { 16 ≤ length out.old }
     ensures size { result ≡ length (carrying code value.now) }
+    ensures bounds { (2 ≤ result) × (result ≤ 16) }
     ensures octets { out.new ≡ carrying code value.now ++ drop result out.old }
     ensures is_value { IsValue value.now }
 {

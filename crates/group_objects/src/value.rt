@@ -7,22 +7,21 @@ use std::marker::Model;
 // The most octets that a value has.
 const MOST_OCTETS: usize = 14;
 
-/// The value of a group object: six bits, or 1 to 14 octets. Its form is which of the two it is, and the number of its octets.
+/// The value of a group object: six bits, or 1 to 14 octets. Its form is which of the two it is, and the number of its
+/// octets.
 ///
 /// A contract sees its octets, and whether they are six bits.
 #[derive(Clone, Copy, Debug, PartialEq, Eq)]
 pub struct Value {
     bits: bool,
     size: usize,
-    store: [u8; 14],
+    store: [u8; MOST_OCTETS],
 }
 
 impl Model for Value {
-    ghost use Rattle.std.specs.Prelude.{◌-◌, ◌++◌, length, take, replicate};
-    ghost use Rattle.std.proofs.Common.{arith};
-    ghost use Rattle.std.proofs.lemmas.Grind.{common_steps};
+    ghost use Rattle.std.specs.Prelude.{length, take};
     ghost use Rattle.group_objects.specs.Value.{ObjectValue};
-    ghost use Rattle.group_objects.specs.Padded.{IsPadded, take_back};
+    ghost use Rattle.group_objects.specs.Padded.{IsPadded, padded, take_back};
 
     ghost Value = { ObjectValue };
 
@@ -30,9 +29,9 @@ impl Model for Value {
 
     ghost invariant = { λ v. IsPadded v.bits v.size v.store };
 
-    ghost inverse = { λ d. record { bits = d.is_bits; size = length d.octets; store = d.octets ++ replicate (14 - length d.octets) 0 } };
+    ghost inverse = { λ d. record { bits = d.is_bits; size = length d.octets; store = padded d.octets } };
 
-    ghost inverse_ok = { λ a h. take_back a (length (take a.size a.store)) h (Prim.grind (arith, common_steps, h.room, h.fits)) };
+    ghost inverse_ok = { λ a h. take_back a h };
 }
 
 impl Value {
@@ -54,7 +53,7 @@ impl Value {
         ensures none { IsNone result ↔ ((length bytes.now ≡ 0) ⊎ (14 < length bytes.now)) }
     {
         match bytes.len() {
-            1..=14 => Some(Value::of_octets(bytes)),
+            1..=MOST_OCTETS => Some(Value::of_octets(bytes)),
             _ => None,
         }
     }
@@ -63,7 +62,7 @@ impl Value {
         requires { value < 64 }
         ensures { result ≡ bits_value value }
     {
-        let mut store = [0; 14];
+        let mut store = [0; MOST_OCTETS];
         store[0] = value;
         Value {
             bits: true,
@@ -77,7 +76,7 @@ impl Value {
         requires fits { length bytes.now ≤ 14 }
         ensures { result ≡ octets_value bytes.now }
     {
-        let mut store = [0; 14];
+        let mut store = [0; MOST_OCTETS];
         store[..bytes.len()].copy_from_slice(bytes);
         Value {
             bits: false,

@@ -1,7 +1,7 @@
-use Rattle.std.proofs.Common.{◌≡◌, Some, None, true, slice_get, sym, subst, ◌∙◌, refl}
+use Rattle.std.proofs.Common.{◌≡◌, Some, true, slice_get, sym, subst, ◌∙◌, refl}
 use Rattle.group_objects.proofs.Forms.{keeps_held}
 use Rattle.group_objects.specs.Value.{same_form}
-use Rattle.group_objects.specs.Objects.{ObjectsState, set_refusal}
+use Rattle.group_objects.specs.Objects.{ObjectsState}
 use Rattle.group_objects.proofs.objects.Objects.set.Goals as goal
 
 pub invariant_of-self : goal.invariant_of-self
