@@ -31,7 +31,7 @@ kept_of-parts mark number c t kept said =
     let above = cond_some (nat_lt mark number) _ kept not_asked.1 in
     record { on_lane = ap (λ k. Some k.0) above.1; above = subst (λ k. mark < k.1) above.1 (ltb-true mark number above.0) }
 
-lanes_pass : (rows : List Row) (asked : Option (List ℕ)) (t : Telegram) (first : Option Verdict) → first_failing (lane_checks rows t) ≡ first
+pub lanes_pass : (rows : List Row) (asked : Option (List ℕ)) (t : Telegram) (first : Option Verdict) → first_failing (lane_checks rows t) ≡ first
     → is_some (first_failing (entry_checks rows asked t)) ≡ false → is_some (first_failing (lane_checks rows t)) ≡ false
 lanes_pass rows asked t None is passed = ap is_some is
 lanes_pass rows asked t (Some failed) is passed =

@@ -3,3 +3,5 @@ pub mod Failing
 pub mod Judging
 pub mod Channels
 pub mod Keeping
+pub mod Entitling
+pub mod Asking

@@ -1,8 +1,7 @@
 -- The checks of a telegram, each by itself, and the verdict as the reason of the first that fails.
-use Rattle.std.specs.Prelude.{ℕ, ◌==◌, ◌&&◌, ◌||◌, not, List, [], ◌∷◌, ◌++◌, length, slice_index, nat_lt, if◌then◌else◌, Bool, true, false, Option, Some, None, option_map, unwrap_or}
+use Rattle.std.specs.Prelude.{◌≡◌, ℕ, ◌==◌, ◌&&◌, ◌||◌, not, List, [], ◌∷◌, ◌++◌, length, slice_index, nat_lt, if◌then◌else◌, Bool, true, false, Option, Some, None, IsSome, option_map, unwrap_or}
 use Rattle.std.specs.Option.{is_some}
 use Rattle.knx_base.specs.declared.address.IndAddr.{IndAddr}
-use Rattle.knx_base.specs.Number.{number_at}
 use Rattle.cemi_frames.specs.Frames.{Telegram}
 use Rattle.knx_ccm.specs.declared.opening.CodeDiffers.{CodeDiffers}
 use Rattle.knx_ccm.specs.Sealing.{opened, said_apdu, said_code, computed_code}
@@ -11,6 +10,7 @@ use Rattle.plain_apdu.specs.declared.service.Service.TheVariants.{GroupValueRead
 use Rattle.plain_apdu.specs.Service as services
 use Rattle.plain_apdu.specs.Tpci.{tpci_of}
 use Rattle.secure_apdu.specs.Secure.{carries_data, has_secure_service, bad_secure, algorithm_of}
+use Rattle.secure_apdu.specs.Sync.{sync_values}
 use Rattle.key_tables.specs.declared.types.Channel.{Channel}
 use Rattle.key_tables.specs.declared.types.Channel.TheVariants as channel
 use Rattle.key_tables.specs.declared.types.Lane.{Lane}
@@ -68,7 +68,9 @@ check_code key number t = unless_opened (opened key (head_in number t) (body_in 
 -- the first number of an answer's payload is the one that it was sealed under
 abbrev pub check_payload : ℕ → Telegram → List ℕ → Option Verdict
 check_payload number t apdu =
-    if sync_service t == 3 then (if number_at apdu 0 == number then None else Some (verdict.BadPayload (number_at apdu 0) number)) else None
+    if sync_service t == 3
+    then (if (sync_values apdu).0 == number then None else Some (verdict.BadPayload (sync_values apdu).0 number))
+    else None
 
 -- the channel is the destination's, or the destination has a role on it
 abbrev pub receiver_may : List Row → ℕ → Channel → Bool
@@ -192,7 +194,7 @@ abbrev pub good_verdict : ℕ → Telegram → List ℕ → Verdict
 good_verdict number t apdu =
     if sync_service t == 0 then verdict.Accepted number (service_in apdu)
     else if sync_service t == 2 then verdict.SyncAsk number apdu
-    else verdict.SyncAnswer number (number_at apdu 6)
+    else verdict.SyncAnswer number (sync_values apdu).1
 
 abbrev pub verdict_or : Verdict → Option Verdict → Verdict
 verdict_or good None = good
@@ -212,6 +214,26 @@ on_channel other (Some c) P = P c
 unfoldable pub verdict_of : List Row → ℕ → Option (List ℕ) → Telegram → Verdict
 verdict_of rows mark asked t =
     verdict_or (on_channel verdict.NoKey (channel_in rows t) (λ c. verdict_on rows mark (number_in asked t) c t)) (first_failing (entry_checks rows asked t))
+
+abbrev pub is_ask : Verdict → Bool
+is_ask (verdict.SyncAsk _ _) = true
+is_ask _ = false
+
+-- one of the three where no check fails
+abbrev pub is_good : Verdict → Bool
+is_good (verdict.Accepted _ _) = true
+is_good (verdict.SyncAsk _ _) = true
+is_good (verdict.SyncAnswer _ _) = true
+is_good _ = false
+
+-- A telegram has a channel, with a key, whose sender may send there and whose receiver is on it; and a lane of that channel.
+pub record IsEntitled (rows : List Row) (t : Telegram) : Type 0 where
+  pub channel : Channel
+  pub channel_is : channel_in rows t ≡ Some channel
+  pub keyed : IsSome (key_of rows channel)
+  pub may_send : IsSome (role_of rows channel (source_of t))
+  pub may_receive : receiver_may rows t.destination channel ≡ true
+  pub lane_is : lane_in rows t ≡ Some (lane_of channel (source_of t))
 
 -- ---- what is kept
 

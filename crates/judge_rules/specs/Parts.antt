@@ -1,7 +1,7 @@
 -- The parts of a secure telegram that its judgement reads.
 use Rattle.std.specs.Prelude.{ℕ, ◌/◌, ◌%◌, ◌==◌, List, slice_index, drop, if◌then◌else◌, Bool, Option, Some, None}
 use Rattle.knx_base.specs.declared.address.IndAddr.{IndAddr}
-use Rattle.knx_base.specs.Number.{number_at, number_of, octets_of}
+use Rattle.knx_base.specs.Number.{number_at}
 use Rattle.cemi_frames.specs.Frames.{Telegram}
 use Rattle.knx_ccm.specs.declared.head.Head.{Head}
 use Rattle.plain_apdu.specs.declared.service.Service.{Service}
@@ -9,7 +9,7 @@ use Rattle.plain_apdu.specs.Apdu.{apci_of}
 use Rattle.plain_apdu.specs.Service as services
 use Rattle.secure_apdu.specs.Secure.{service_of}
 use Rattle.secure_apdu.specs.Opening.{head_of}
-use Rattle.secure_apdu.specs.Sync.{xor_octets}
+use Rattle.secure_apdu.specs.Sync.{xor_number}
 use Rattle.key_tables.specs.declared.types.Row.{Row}
 use Rattle.key_tables.specs.declared.types.Channel.{Channel}
 use Rattle.key_tables.specs.Rows.{channel_of}
@@ -41,7 +41,7 @@ body_in telegram = drop 9 telegram.content
 
 abbrev pub with_challenge : Option (List ℕ) → ℕ → ℕ
 with_challenge None shown = shown
-with_challenge (Some challenge) shown = number_of (xor_octets challenge (octets_of shown))
+with_challenge (Some challenge) shown = xor_number challenge shown
 
 -- the number under which it was sealed: the one that it shows, and for an answer that one with the challenge added
 abbrev pub number_in : Option (List ℕ) → Telegram → ℕ

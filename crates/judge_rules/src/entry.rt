@@ -1,9 +1,9 @@
-ghost use Rattle.std.specs.Prelude.{◌≡◌, ◌/◌, ◌%◌, ◌==◌, [], ◌∷◌, false, Some, None, MatchResult, MatchOption, OnOk, IfOk};
+ghost use Rattle.std.specs.Prelude.{◌≡◌, ◌/◌, ◌%◌, ◌==◌, [], ◌∷◌, false, Some, None, MatchResult, MatchOption, OnOk, IfOk, IfErr};
 ghost use Rattle.cemi_frames.specs.Frames.{Telegram, telegram};
 ghost use Rattle.secure_apdu.specs.Secure.{is_secure, bad_secure, HasParts};
 ghost use Rattle.key_tables.specs.Rows.{key_of};
 ghost use Rattle.judge_rules.specs.Parts.{is_group, field_in, shown_in, number_in, channel_in};
-ghost use Rattle.judge_rules.specs.Checks.{check_control, check_plain, check_pending, plain_service, secure_checks, lane_checks, lane_in, entry_checks, first_failing};
+ghost use Rattle.judge_rules.specs.Checks.{check_control, check_plain, check_pending, plain_service, secure_checks, lane_checks, lane_in, entry_checks, first_failing, is_good};
 
 use crate::Verdict;
 use aes_modes::Key128;
@@ -55,13 +55,14 @@ fn keyed<'f, 't>(
     tables: &'t Tables,
     frame: &Frame<'f>,
 ) -> Result<(Secure<'f>, Channel, &'t Key128), Verdict>
-    ensures { MatchResult result
+    ensures found { MatchResult result
         (λ found. (first_failing (lane_checks tables.now (telegram frame.now)) ≡ None)
         × HasParts frame.now.content.now found.0.field found.0.shown found.0.body.now
         × (bad_secure frame.now.content.now (frame.now.control2 / 128 % 2 == 1) ≡ None)
         × (channel_in tables.now (telegram frame.now) ≡ Some found.1)
         × (key_of tables.now found.1 ≡ Some found.2.now))
         (λ verdict. first_failing (lane_checks tables.now (telegram frame.now)) ≡ Some verdict) }
+    ensures bad { IfErr result (λ verdict. is_good verdict ≡ false) }
 {
     let secure = match secure_parts(frame) {
         Ok(secure) => secure,
@@ -80,6 +81,7 @@ pub fn secure_parts<'a>(frame: &Frame<'a>) -> Result<Secure<'a>, Verdict>
         (λ verdict. first_failing (secure_checks (telegram frame.now)) ≡ Some verdict) }
     ensures faultless { OnOk result (bad_secure frame.now.content.now (frame.now.control2 / 128 % 2 == 1) ≡ None) }
     ensures parts { IfOk result (λ secure. HasParts frame.now.content.now secure.field secure.shown secure.body.now) }
+    ensures bad { IfErr result (λ verdict. is_good verdict ≡ false) }
 {
     if !is_secure(frame) {
         return Err(insecure(frame));
@@ -125,7 +127,7 @@ pub(crate) fn enter<'f, 't>(
     asked: Option<[u8; 6]>,
     frame: &Frame<'f>,
 ) -> Result<Entry<'f, 't>, Verdict>
-    ensures { MatchResult result
+    ensures entry { MatchResult result
         (λ entry. (first_failing (entry_checks tables.now asked (telegram frame.now)) ≡ None)
         × HasParts frame.now.content.now entry.secure.field entry.secure.shown entry.secure.body.now
         × (bad_secure frame.now.content.now (frame.now.control2 / 128 % 2 == 1) ≡ None)
@@ -133,6 +135,7 @@ pub(crate) fn enter<'f, 't>(
         × (key_of tables.now entry.channel ≡ Some entry.key.now)
         × (entry.number ≡ number_in asked (telegram frame.now)))
         (λ verdict. first_failing (entry_checks tables.now asked (telegram frame.now)) ≡ Some verdict) }
+    ensures bad { IfErr result (λ verdict. is_good verdict ≡ false) }
 {
     let (secure, channel, key) = match keyed(tables, frame) {
         Ok(found) => found,
@@ -167,7 +170,8 @@ fn nonce_number(secure: &Secure<'_>, asked: Option<[u8; 6]>) -> Option<Number48>
 // Why a frame is not secure.
 fn insecure(frame: &Frame<'_>) -> Verdict
     requires { is_secure frame.now.content.now ≡ false }
-    ensures { first_failing (check_control (telegram frame.now) ∷ check_plain (telegram frame.now) ∷ []) ≡ Some result }
+    ensures first { first_failing (check_control (telegram frame.now) ∷ check_plain (telegram frame.now) ∷ []) ≡ Some result }
+    ensures bad { is_good result ≡ false }
 {
     match Tpci::read(frame.content[0]) {
         Tpci::Data | Tpci::Connected(_) => Verdict::Plain(plain_service(frame.content)),

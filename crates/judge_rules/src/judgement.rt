@@ -1,10 +1,10 @@
-ghost use Rattle.std.specs.Prelude.{◌≡◌, ◌+◌, ◌/◌, ◌%◌, ◌==◌, ◌≤◌, ◌<◌, length, if◌then◌else◌, Some, None, IfSome};
+ghost use Rattle.std.specs.Prelude.{◌≡◌, ◌+◌, ◌/◌, ◌%◌, ◌==◌, ◌≤◌, ◌<◌, length, if◌then◌else◌, true, false, Some, None, IfSome};
 ghost use Rattle.cemi_frames.specs.Frames.{telegram};
-ghost use Rattle.knx_base.specs.Number.{number_at, number_of};
 ghost use Rattle.secure_apdu.specs.Secure.{bad_secure, HasParts};
+ghost use Rattle.secure_apdu.specs.Sync.{sync_values};
 ghost use Rattle.key_tables.specs.Rows.{key_of};
 ghost use Rattle.judge_rules.specs.Parts.{sync_service, source_of, service_in};
-ghost use Rattle.judge_rules.specs.Checks.{check_payload, check_sender, receiver_may, opened_checks, last_checks, data_checks, good_verdict, verdict_or, first_failing, lane_in, verdict_on, verdict_of, kept_of, kept_on, kept_by, opened_on, opened_by};
+ghost use Rattle.judge_rules.specs.Checks.{check_payload, check_sender, receiver_may, opened_checks, last_checks, data_checks, good_verdict, verdict_or, first_failing, lane_in, verdict_on, verdict_of, kept_of, kept_on, kept_by, opened_on, opened_by, is_ask, is_good, IsEntitled};
 
 use crate::data::{data_refusal, service_in};
 use crate::entry::{ANSWER, DATA, Entry, REQUEST, enter};
@@ -12,7 +12,7 @@ use crate::{Judgement, Verdict};
 use cemi_frames::Frame;
 use key_tables::{Channel, Lane, Tables};
 use knx_base::{IndAddr, Number48};
-use secure_apdu::{ApduBuf, open_frame};
+use secure_apdu::{ApduBuf, open_frame, sync_values};
 
 /// Judges a frame under the mark of its lane, and the challenge that is open or none. Where the code is right `apdu` has the
 /// APDU that was opened; else it is empty.
@@ -28,7 +28,10 @@ pub fn judge(
     ensures keeps { result.keeps ≡ kept_by tables.now kept asked (telegram frame.now) }
     ensures lane { IfSome result.keeps (λ keeps. lane_in tables.now (telegram frame.now) ≡ Some keeps.0) }
     ensures above { IfSome result.keeps (λ keeps. kept < keeps.1) }
+    ensures ask_keeps_nothing { is_ask result.verdict ≡ true → result.keeps ≡ None }
     ensures opened { apdu.new ≡ opened_by tables.now asked (telegram frame.now) }
+    ensures entitled { is_good result.verdict ≡ true → IsEntitled tables.now (telegram frame.now) }
+    ensures two { is_good result.verdict ≡ true → 2 ≤ length apdu.new }
 {
     apdu.clear();
     match enter(tables, asked, frame) {
@@ -60,6 +63,8 @@ fn judge_entry(
     ensures verdict { result.verdict ≡ verdict_on tables.now kept entry.now.number entry.now.channel (telegram frame.now) }
     ensures keeps { result.keeps ≡ kept_on tables.now kept entry.now.number entry.now.channel (telegram frame.now) }
     ensures opened { apdu.new ≡ opened_on tables.now entry.now.number entry.now.channel (telegram frame.now) }
+    ensures sender { is_good result.verdict ≡ true → check_sender tables.now entry.now.channel (telegram frame.now) ≡ None }
+    ensures two { is_good result.verdict ≡ true → 2 ≤ length apdu.new }
 {
     match open_frame(entry.key, frame, &entry.secure, entry.number, apdu) {
         Ok(()) => judge_opened(tables, kept, frame, entry, apdu.bytes()),
@@ -85,6 +90,7 @@ fn judge_opened(
         → (result.verdict ≡ verdict_or (good_verdict entry.now.number (telegram frame.now) apdu.now)
         (first_failing (last_checks tables.now kept entry.now.number entry.now.channel (telegram frame.now) apdu.now)))
         × (result.keeps ≡ kept_of kept entry.now.number entry.now.channel (telegram frame.now)) }
+    ensures sender { is_good result.verdict ≡ true → check_sender tables.now entry.now.channel (telegram frame.now) ≡ None }
 {
     match opened_refusal(tables, frame, entry, apdu) {
         Some(verdict) => refused(verdict),
@@ -103,7 +109,9 @@ fn opened_refusal(
 ) -> Option<Verdict>
     requires parts { HasParts frame.now.content.now entry.now.secure.field entry.now.secure.shown entry.now.secure.body.now }
     requires twelve { sync_service (telegram frame.now) ≡ 3 → length apdu.now ≡ 12 }
-    ensures { result ≡ first_failing (opened_checks tables.now entry.now.number entry.now.channel (telegram frame.now) apdu.now) }
+    ensures first { result ≡ first_failing (opened_checks tables.now entry.now.number entry.now.channel (telegram frame.now) apdu.now) }
+    ensures bad { IfSome result (λ verdict. is_good verdict ≡ false) }
+    ensures sender { result ≡ None → check_sender tables.now entry.now.channel (telegram frame.now) ≡ None }
 {
     match payload_refusal(frame, entry, apdu) {
         Some(verdict) => Some(verdict),
@@ -115,12 +123,13 @@ fn opened_refusal(
 fn payload_refusal(frame: &Frame<'_>, entry: &Entry<'_, '_>, apdu: &[u8]) -> Option<Verdict>
     requires parts { HasParts frame.now.content.now entry.now.secure.field entry.now.secure.shown entry.now.secure.body.now }
     requires twelve { sync_service (telegram frame.now) ≡ 3 → length apdu.now ≡ 12 }
-    ensures { result ≡ check_payload entry.now.number (telegram frame.now) apdu.now }
+    ensures check { result ≡ check_payload entry.now.number (telegram frame.now) apdu.now }
+    ensures bad { IfSome result (λ verdict. is_good verdict ≡ false) }
 {
     if entry.service() != ANSWER {
         return None;
     }
-    let said = Number48::from_bytes(six_at(apdu, 0));
+    let (said, _) = values_of(apdu);
     if said == entry.number {
         return None;
     }
@@ -130,19 +139,14 @@ fn payload_refusal(frame: &Frame<'_>, entry: &Entry<'_, '_>, apdu: &[u8]) -> Opt
     })
 }
 
-#[tactic(auto, unfolding(knx_base::specs::Number::number_at))]
-fn six_at(octets: &[u8], at: usize) -> [u8; 6]
-    requires { at + 6 ≤ length octets.now }
-    ensures { number_of result ≡ number_at octets.now at }
+// The two numbers of an answer's payload.
+fn values_of(payload: &[u8]) -> (Number48, Number48)
+    requires { length payload.now ≡ 12 }
+    ensures { result ≡ sync_values payload.now }
 {
-    [
-        octets[at],
-        octets[at + 1],
-        octets[at + 2],
-        octets[at + 3],
-        octets[at + 4],
-        octets[at + 5],
-    ]
+    let mut octets = [0; 12];
+    octets.copy_from_slice(payload);
+    sync_values(&octets)
 }
 
 // Whether the source may send on the channel, and the destination is on it.
@@ -190,10 +194,8 @@ fn last_verdict(
             challenge: six_of(apdu),
         };
     }
-    Verdict::SyncAnswer {
-        number,
-        kept: Number48::from_bytes(six_at(apdu, 6)),
-    }
+    let (_, kept) = values_of(apdu);
+    Verdict::SyncAnswer { number, kept }
 }
 
 fn six_of(octets: &[u8]) -> [u8; 6]

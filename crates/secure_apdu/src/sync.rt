@@ -1,6 +1,6 @@
 ghost use Rattle.std.specs.Prelude.{◌≡◌, ◌++◌};
-ghost use Rattle.knx_base.specs.Number.{octets_of, number_at};
-ghost use Rattle.secure_apdu.specs.Sync.{xor_number, xor_octets};
+ghost use Rattle.knx_base.specs.Number.{octets_of};
+ghost use Rattle.secure_apdu.specs.Sync.{xor_number, xor_octets, sync_values};
 
 use knx_base::Number48;
 
@@ -18,8 +18,7 @@ pub fn xor_number(challenge: [u8; 6], number: Number48) -> Number48
 
 /// The two numbers in the payload of an answer: the one under which it was sealed, and the one that the responder kept.
 pub fn sync_values(payload: &[u8; 12]) -> (Number48, Number48)
-    ensures number { result.0 ≡ number_at payload.now 0 }
-    ensures kept { result.1 ≡ number_at payload.now 6 }
+    ensures values { result ≡ sync_values payload.now }
     ensures back { octets_of result.0 ++ octets_of result.1 ≡ payload.now }
 {
     let [n0, n1, n2, n3, n4, n5, k0, k1, k2, k3, k4, k5] = *payload;

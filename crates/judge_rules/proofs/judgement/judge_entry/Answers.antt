@@ -27,3 +27,6 @@ returns-in-Ok-clause-keeps c =
     let said = opened_as _ _ _ (telegram c.args.frame.now) _ _ _ _ _ c.requires.key c.requires.parts (c.in-Ok.ensures.answer ∙ ap Some (sym c.bytes.ensures.octets)) in
     opened_kept c.args.tables.now c.args.kept c.args.entry.now.number c.args.entry.now.channel (telegram c.args.frame.now) c.bytes.result.now
     c.judge_opened.result.keeps said (λ failed is. (c.judge_opened.ensures.refused failed is).1) (λ is. (c.judge_opened.ensures.passed is).1)
+
+pub returns-in-Ok-clause-two : goal.returns-in-Ok-clause-two
+returns-in-Ok-clause-two c = λ good. omega (arith, c.in-Ok.ensures.length, faultless_length _ _ c.requires.faultless)
