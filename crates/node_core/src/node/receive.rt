@@ -5,6 +5,7 @@ ghost use Rattle.cemi_frames.specs.Frames.{telegram};
 ghost use Rattle.judge_rules.specs.Checks.{lane_in, verdict_of};
 ghost use Rattle.judge_rules.specs.Parts.{source_of};
 ghost use Rattle.sync_service.specs.Open.{asked_of};
+ghost use Rattle.node_core.specs.Laws.{LeavesRaised};
 ghost use Rattle.node_core.specs.Node.{node_state, receive_stop, Does};
 ghost use Rattle.node_core.specs.Receiving.{receive_transition, addressed_transition, telegram_transition, lane_transition, addressee, kept_raises};
 ghost use Rattle.node_core.specs.Standing.{raised, mark_at};
@@ -23,6 +24,7 @@ impl<M: Nvm> Node<M> {
     ///
     /// What is no frame is refused first; then a frame for others is ignored; then the checks are applied. The mark of the telegram's lane is
     /// raised before anything else is done. There are at most two operations of the memory: that raise, and the draw for a reply.
+    #[tactic(auto, using(crate::proofs::Raising::receive_raised))]
     pub fn receive(&mut self, octets: &[u8], out: &mut FrameBuf) -> Outcome
         requires running { (node_state self.old).running ≡ true }
         ensures does { let old = node_state self.old in
@@ -31,6 +33,7 @@ impl<M: Nvm> Node<M> {
         ensures runs { let old = node_state self.old in let new = node_state self.new in
             Runs old.standing.numbers (receive_transition old.config old.standing octets.now).raises (receive_stop result)
             (M.state old.memory) (M.state new.memory) (M.images old.memory) (M.images new.memory) }
+        ensures numbers { let old = node_state self.old in LeavesRaised (receive_transition old.config old.standing octets.now) old.standing }
     {
         match read_frame(octets) {
             Ok(frame) => self.receive_frame(&frame, out),

@@ -3,6 +3,7 @@ ghost use Rattle.std.specs.Result.{result_err};
 ghost use Rattle.nvm_model.specs.Nvm.{State};
 ghost use Rattle.seq_store.specs.Runs.{Runs};
 ghost use Rattle.key_tables.specs.declared.types.Channel.TheVariants as channel;
+ghost use Rattle.node_core.specs.Laws.{LeavesRaised};
 ghost use Rattle.node_core.specs.Message.{message_frame, IsSendable};
 ghost use Rattle.node_core.specs.Node.{node_state, send_stop, Does};
 ghost use Rattle.node_core.specs.Sending.{send_transition, object_transition, group_transition, tool_transition, ask_transition, set_transition, on_channel};
@@ -34,6 +35,7 @@ impl<M: Nvm> Node<M> {
     ///
     /// Refused are, in this order, an object that is not there, one that sends nothing, a group without a key, and a call when all
     /// numbers are drawn. Memory comes only where the number was not reserved, as the memory answered.
+    #[tactic(auto, using(crate::proofs::Raising::send_raised))]
     pub fn send(
         &mut self,
         object: usize,
@@ -47,6 +49,7 @@ impl<M: Nvm> Node<M> {
         ensures runs { let old = node_state self.old in let new = node_state self.new in
             Runs old.standing.numbers (send_transition old.config old.standing object service).raises (send_stop result)
             (M.state old.memory) (M.state new.memory) (M.images old.memory) (M.images new.memory) }
+        ensures numbers { let old = node_state self.old in LeavesRaised (send_transition old.config old.standing object service) old.standing }
     {
         match (self.config.row(object), self.value(object)) {
             (Some(row), Some(value)) => self.send_object(row, value, service, out),
@@ -106,6 +109,7 @@ impl<M: Nvm> Node<M> {
     /// Seals an APDU of 2 to 16 octets for a device into `out`, with tool access and encrypted, under the next number and the key of that device
     /// or, where it has none, of the node itself. Without either it is refused as NoKey, then where all numbers are drawn. Memory comes only
     /// where the number was not reserved, as the memory answered.
+    #[tactic(auto, using(crate::proofs::Raising::tool_raised))]
     pub fn send_tool(
         &mut self,
         to: IndAddr,
@@ -121,6 +125,7 @@ impl<M: Nvm> Node<M> {
         ensures runs { let old = node_state self.old in let new = node_state self.new in
             Runs old.standing.numbers (tool_transition old.config old.standing to apdu.now).raises (send_stop result)
             (M.state old.memory) (M.state new.memory) (M.images old.memory) (M.images new.memory) }
+        ensures numbers { let old = node_state self.old in LeavesRaised (tool_transition old.config old.standing to apdu.now) old.standing }
     {
         let message = Message::Data {
             destination: to.0,
@@ -133,6 +138,7 @@ impl<M: Nvm> Node<M> {
 
     /// Seals a request of a synchronisation for a device into `out`, under the next number. Its challenge is then the one that is open. It is
     /// refused as [`Node::send_tool`] refuses an APDU, and then the challenge that was open stays open.
+    #[tactic(auto, using(crate::proofs::Raising::ask_raised))]
     pub fn ask(
         &mut self,
         to: IndAddr,
@@ -146,6 +152,7 @@ impl<M: Nvm> Node<M> {
         ensures runs { let old = node_state self.old in let new = node_state self.new in
             Runs old.standing.numbers (ask_transition old.config old.standing to challenge).raises (send_stop result)
             (M.state old.memory) (M.state new.memory) (M.images old.memory) (M.images new.memory) }
+        ensures numbers { let old = node_state self.old in LeavesRaised (ask_transition old.config old.standing to challenge) old.standing }
     {
         let channel = self.config.device_channel(to);
         match self.seal(channel, Message::Ask { to, challenge }, out) {
