@@ -25,9 +25,11 @@ some_where : {A : Type 0} (b : Bool) (x : A) → is_some (cond b (Some x) None) 
 some_where true x = refl
 some_where false x = refl
 
+pub there_where : {A : Type 0} (p : A → Bool) (xs : List A) → is_some (position p xs) ≡ list_any p xs
+there_where p xs = some_where (nat_lt (position_or_len p xs) (length xs)) (position_or_len p xs) ∙ found p xs
+
 pub none_passes : {A : Type 0} (p : A → Bool) (xs : List A) → position p xs ≡ None → list_any p xs ≡ false
-none_passes p xs none =
-    sym (found p xs) ∙ sym (some_where (nat_lt (position_or_len p xs) (length xs)) (position_or_len p xs)) ∙ ap is_some none
+none_passes p xs none = sym (there_where p xs) ∙ ap is_some none
 
 -- ---- the refusal of a start, in the words of a configuration
 

@@ -31,11 +31,11 @@ pub(crate) enum Message<'a> {
 
 impl Message<'_> {
     // Writes the frame of the message, sealed under this key and this number.
-    pub(crate) fn seal(self, key: &Key128, source: IndAddr, number: Number48, out: &mut FrameBuf)
-        requires sendable { IsSendable self }
-        ensures frame { out.new ≡ message_frame source self.entry key.now number }
+    pub(crate) fn seal(&self, key: &Key128, source: IndAddr, number: Number48, out: &mut FrameBuf)
+        requires sendable { IsSendable self.now }
+        ensures frame { out.new ≡ message_frame source self.now key.now number }
     {
-        match self {
+        match *self {
             Message::Data {
                 destination,
                 group,

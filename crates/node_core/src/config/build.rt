@@ -1,8 +1,9 @@
 ghost use Rattle.std.specs.Prelude.{◌≡◌, ◌≤◌, false, None, position, length, IsOk, IfOk, IfErr};
 ghost use Rattle.std.specs.List.{list_any};
 ghost use Rattle.seq_store.specs.Layout.{most_lanes};
-ghost use Rattle.key_tables.specs.Lanes.{is_any, lanes_of};
+ghost use Rattle.key_tables.specs.Lanes.{is_any, lanes_of, SendersHaveLanes};
 ghost use Rattle.node_core.specs.Config.{configured, config_fault, groups_of, IsConfigFault};
+ghost use Rattle.node_core.specs.Laws.{KeepsOnLanes};
 ghost use Rattle.node_core.specs.Node.{config_state};
 
 use crate::{Config, ConfigFault};
@@ -18,7 +19,7 @@ impl Config {
     /// The configuration of the device of this address: the rows of its installation, and its objects with their first values.
     ///
     /// A refusal tells the first fault in the order of [`ConfigFault`].
-    #[tactic(auto, using(crate::proofs::Starting::none_passes))]
+    #[tactic(auto, using(crate::proofs::Starting::none_passes, crate::proofs::Keeping::keeps_on_lanes))]
     pub fn build(
         alloc: Global,
         address: IndAddr,
@@ -26,6 +27,7 @@ impl Config {
         objects: &[ObjectRow],
     ) -> Result<Config, ConfigFault>
         ensures config { IfOk result (λ config. config_state config ≡ configured address rows.now objects.now) }
+        ensures keeps { IsOk result → KeepsOnLanes (configured address rows.now objects.now) }
         ensures stand { IsOk result → config_fault (configured address rows.now objects.now) ≡ None }
         ensures fault { IfErr result (λ fault. IsConfigFault fault (config_fault (configured address rows.now objects.now))) }
     {
@@ -79,6 +81,7 @@ fn node_lanes(
 ) -> Result<LaneList, NoMemory>
     requires named { list_any is_any rows.now ≡ false }
     ensures lanes { IfOk result (λ lanes. lanes ≡ lanes_of rows.now address (groups_of objects.now)) }
+    ensures senders { IsOk result → SendersHaveLanes rows.now address (groups_of objects.now) }
 {
     let groups = groups_of(alloc, objects)?;
     key_tables::lanes(alloc, rows, address, &groups)

@@ -223,7 +223,7 @@ impl<M: Nvm> Node<M> {
             kept: self.mark_told(source, lane),
         };
         let channel = self.config.device_channel(source);
-        let reply = match self.seal(channel, message, out) {
+        let reply = match self.seal(channel, &message, out) {
             Ok(reply) => Some(reply),
             Err(SendFault::Memory(fault)) => return Outcome::Stopped(fault),
             Err(_) => None,

@@ -80,8 +80,8 @@ impl<M: Nvm> Node<M> {
     {
         let mut apdu = ApduBuf::new();
         let zero = Number48::from_bytes([0; 6]);
-        let asked = self.pending.asked(frame.source);
-        judge(&self.config.tables, zero, asked, frame, &mut apdu).verdict
+        let challenge = self.pending.asked(frame.source);
+        judge(&self.config.tables, zero, challenge, frame, &mut apdu).verdict
     }
 
     fn receive_on(

@@ -103,7 +103,7 @@ impl<M: Nvm> Node<M> {
             field: self.config.group_field(group),
             apdu,
         };
-        self.seal(Some(Channel::Group(group)), message, out)
+        self.seal(Some(Channel::Group(group)), &message, out)
     }
 
     /// Seals an APDU of 2 to 16 octets for a device into `out`, with tool access and encrypted, under the next number and the key of that device
@@ -133,7 +133,8 @@ impl<M: Nvm> Node<M> {
             field: TOOL,
             apdu,
         };
-        self.seal(self.config.device_channel(to), message, out)
+        let channel = self.config.device_channel(to);
+        self.seal(channel, &message, out)
     }
 
     /// Seals a request of a synchronisation for a device into `out`, under the next number. Its challenge is then the one that is open. It is
@@ -155,7 +156,8 @@ impl<M: Nvm> Node<M> {
         ensures numbers { let old = node_state self.old in LeavesRaised (ask_transition old.config old.standing to challenge) old.standing }
     {
         let channel = self.config.device_channel(to);
-        match self.seal(channel, Message::Ask { to, challenge }, out) {
+        let message = Message::Ask { to, challenge };
+        match self.seal(channel, &message, out) {
             Ok(number) => {
                 self.pending.open(to, challenge);
                 Ok(number)
@@ -168,33 +170,32 @@ impl<M: Nvm> Node<M> {
     pub(crate) fn seal(
         &mut self,
         channel: Option<Channel>,
-        message: Message<'_>,
+        message: &Message<'_>,
         out: &mut FrameBuf,
     ) -> Result<Number48, SendFault>
         requires running { (node_state self.old).running ≡ true }
-        requires sendable { IsSendable message }
+        requires sendable { IsSendable message.now }
         ensures does { let old = node_state self.old in
-            Does (on_channel old.config old.standing channel (message_frame old.config.address message.entry)) (send_stop result) result
+            Does (on_channel old.config old.standing channel (message_frame old.config.address message.now)) (send_stop result) result
             old (node_state self.new) out.old out.new }
         ensures runs { let old = node_state self.old in let new = node_state self.new in
             Runs old.standing.numbers
-            (on_channel old.config old.standing channel (message_frame old.config.address message.entry)).raises (send_stop result)
+            (on_channel old.config old.standing channel (message_frame old.config.address message.now)).raises (send_stop result)
             (M.state old.memory) (M.state new.memory) (M.images old.memory) (M.images new.memory) }
     {
-        let source = self.config.address;
+        let config = &self.config;
         let Some(channel) = channel else {
             return Err(SendFault::NoKey);
         };
-        let Some(key) = self.config.tables.expanded_key(channel) else {
+        let Some(key) = config.tables.expanded_key(channel) else {
             return Err(SendFault::NoKey);
         };
-        match self.store.draw() {
-            Ok(number) => {
-                message.seal(key, source, number, out);
-                Ok(number)
-            }
-            Err(DrawFault::Exhausted) => Err(SendFault::Exhausted),
-            Err(DrawFault::Memory(fault)) => Err(SendFault::Memory(fault)),
-        }
+        let number = match self.store.draw() {
+            Ok(number) => number,
+            Err(DrawFault::Exhausted) => return Err(SendFault::Exhausted),
+            Err(DrawFault::Memory(fault)) => return Err(SendFault::Memory(fault)),
+        };
+        message.seal(key, config.address, number, out);
+        Ok(number)
     }
 }

@@ -18,7 +18,6 @@ impl<M: Nvm> Node<M> {
     ///
     /// A refusal hands configuration and memory back. NoMemory comes before anything is read. Memory comes only as a read answered.
     /// Unformatted comes exactly where the memory lacks a value and no read was refused.
-    #[tactic(auto, using(crate::proofs::Starting::unformatted_as))]
     pub fn start(alloc: Global, config: Config, memory: M) -> Result<Node<M>, StartRefused<M>>
         requires size { length (M.state memory).octets ≡ store_size (length (config_state config).lanes) }
 
