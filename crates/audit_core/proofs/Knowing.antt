@@ -11,9 +11,10 @@ use Rattle.judge_rules.specs.Checks.{lane_in, Kept}
 use Rattle.judge_rules.proofs.Keeping.{kept_by-parts}
 use Rattle.audit_core.specs.declared.line.Line.{Line}
 use Rattle.sync_service.specs.Open.{Asked, asked_in}
-use Rattle.audit_core.specs.Audit.{AllKept, same_lane, greatest_on, mark_under, asked_under, telegram_in, kept_of, opened_of, with_kept, all_kept, judged_of, is_exchange, challenge_in, last_asked, audit_mark, audit_asked, line_of, apdu_of, line_under, lines_of, total_of, is_accepted, is_sync, has_alarm}
+use Rattle.key_tables.specs.Lanes.{same_lane}
+use Rattle.audit_core.specs.Audit.{AllKept, greatest_on, mark_under, asked_under, telegram_in, kept_of, opened_of, with_kept, all_kept, judged_of, is_exchange, challenge_in, last_asked, audit_mark, audit_asked, line_of, apdu_of, line_under, lines_of, total_of, is_accepted, is_sync, has_alarm}
 use Rattle.audit_core.specs.State.{AuditState, Knows, Steps, raised, noted, one_if, with_line}
-use Rattle.audit_core.proofs.Lanes.{same_lane-is}
+use Rattle.key_tables.proofs.LaneOrder.{same_lane-is}
 
 -- ---- marks
 

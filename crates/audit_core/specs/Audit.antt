@@ -8,8 +8,8 @@ use Rattle.cemi_frames.specs.Faults.{frame_fault}
 use Rattle.cemi_frames.specs.Reading.{frame_at}
 use Rattle.cemi_frames.specs.declared.frame.NotFrame.{NotFrame}
 use Rattle.key_tables.specs.declared.types.Lane.{Lane}
-use Rattle.key_tables.specs.declared.types.Lane.TheVariants as lane
 use Rattle.key_tables.specs.declared.types.Row.{Row}
+use Rattle.key_tables.specs.Lanes.{same_lane}
 use Rattle.judge_rules.specs.declared.verdict.Verdict.{Verdict}
 use Rattle.judge_rules.specs.declared.verdict.Verdict.TheVariants as verdict
 use Rattle.judge_rules.specs.Parts.{is_group, source_of}
@@ -19,11 +19,6 @@ use Rattle.audit_core.specs.declared.line.Addresses.{Addresses}
 use Rattle.audit_core.specs.declared.line.Line.{Line}
 
 -- ---- marks
-
-abbrev pub same_lane : Lane → Lane → Bool
-same_lane (lane.Run sender) (lane.Run other) = sender.0 == other.0
-same_lane (lane.Tool device sender) (lane.Tool other from) = device.0 == other.0 && sender.0 == from.0
-same_lane _ _ = false
 
 -- numbers that were kept, each on its lane
 abbrev pub AllKept : Type 0

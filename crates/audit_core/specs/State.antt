@@ -8,7 +8,8 @@ use Rattle.judge_rules.specs.declared.verdict.Verdict.TheVariants as verdict
 use Rattle.judge_rules.specs.Checks.{Kept}
 use Rattle.sync_service.specs.Open.{Book, Asked, asked_in, with_pair}
 use Rattle.audit_core.specs.declared.line.Line.{Line}
-use Rattle.audit_core.specs.Audit.{AllKept, same_lane, audit_mark, audit_asked, Total, total_of, telegram_in, kept_of, line_under, is_exchange, challenge_in, is_accepted, is_sync, has_alarm}
+use Rattle.key_tables.specs.Lanes.{same_lane}
+use Rattle.audit_core.specs.Audit.{AllKept, audit_mark, audit_asked, Total, total_of, telegram_in, kept_of, line_under, is_exchange, challenge_in, is_accepted, is_sync, has_alarm}
 use Rattle.audit_core.specs.Marks.{mark_in}
 
 pub record AuditState : Type 0 where

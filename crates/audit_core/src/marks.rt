@@ -1,7 +1,8 @@
 ghost use Rattle.std.specs.Prelude.{◌≡◌, if◌then◌else◌, IsOk, OnErr, []};
 ghost use Rattle.std.specs.Map.{lookup};
 ghost use Rattle.key_tables.specs.declared.types.Lane.{Lane};
-ghost use Rattle.audit_core.specs.Audit.{same_lane, mark_under};
+ghost use Rattle.key_tables.specs.Lanes.{same_lane};
+ghost use Rattle.audit_core.specs.Audit.{mark_under};
 ghost use Rattle.audit_core.specs.Marks.{mark_in};
 
 use key_tables::Lane;

@@ -6,12 +6,12 @@ use Rattle.std.proofs.lemmas.Option.{none-some}
 use Rattle.cemi_frames.specs.Frames.{Telegram}
 use Rattle.key_tables.specs.declared.types.Channel.{Channel}
 use Rattle.key_tables.specs.declared.types.Row.{Row}
-use Rattle.key_tables.specs.Rows.{key_of, role_of, lane_of}
+use Rattle.key_tables.specs.Rows.{key_of, role_of, receiver_may, lane_of}
 use Rattle.judge_rules.specs.Parts.{source_of, channel_in}
-use Rattle.judge_rules.specs.Checks.{entry_checks, check_sender, receiver_may, lane_in, first_failing, IsEntitled}
+use Rattle.judge_rules.specs.Checks.{entry_checks, check_sender, lane_in, first_failing, IsEntitled}
 use Rattle.judge_rules.proofs.Keeping.{lanes_pass}
 
-both_where : {A : Type 0} (a b : Bool) (x : A) → (if a && b then None else Some x) ≡ None → (a ≡ true) × (b ≡ true)
+pub both_where : {A : Type 0} (a b : Bool) (x : A) → (if a && b then None else Some x) ≡ None → (a ≡ true) × (b ≡ true)
 both_where true true x said = (refl, refl)
 both_where true false x said = elim (none-some x (sym said)) [ ]
 both_where false b x said = elim (none-some x (sym said)) [ ]

@@ -15,7 +15,7 @@ use Rattle.judge_rules.specs.Checks.{lane_checks, entry_checks, check_pending, c
 use Rattle.judge_rules.proofs.Failing.{first_failing-stays}
 
 -- there is an answer on the other way alone
-on_other_way : {A : Type 0} (b : Bool) (o : Option A) (x : A) → (if b then None else o) ≡ Some x → (b ≡ false) × (o ≡ Some x)
+pub on_other_way : {A : Type 0} (b : Bool) (o : Option A) (x : A) → (if b then None else o) ≡ Some x → (b ≡ false) × (o ≡ Some x)
 on_other_way true o x said = elim (none-some x said) [ ]
 on_other_way false o x said = (refl, said)
 
@@ -24,7 +24,7 @@ pub record IsKept (lane : Option Lane) (mark : ℕ) (kept : Lane × ℕ) : Type 
   pub on_lane : lane ≡ Some kept.0
   pub above : mark < kept.1
 
-kept_of-parts : (mark number : ℕ) (c : Channel) (t : Telegram) (kept : Lane × ℕ) → kept_of mark number c t ≡ Some kept
+pub kept_of-parts : (mark number : ℕ) (c : Channel) (t : Telegram) (kept : Lane × ℕ) → kept_of mark number c t ≡ Some kept
     → IsKept (Some (lane_of c (source_of t))) mark kept
 kept_of-parts mark number c t kept said =
     let not_asked = on_other_way (sync_service t == 2) _ kept said in

@@ -5,3 +5,4 @@ pub mod Channels
 pub mod Keeping
 pub mod Entitling
 pub mod Asking
+pub mod NodeLanes

@@ -19,7 +19,7 @@ use Rattle.key_tables.specs.declared.types.Level.TheVariants.{Auth, Conf}
 use Rattle.key_tables.specs.declared.types.Role.{Role}
 use Rattle.key_tables.specs.declared.types.Role.TheVariants.{Observe, Command, Manage}
 use Rattle.key_tables.specs.declared.types.Row.{Row}
-use Rattle.key_tables.specs.Rows.{key_of, level_of, role_of, lane_of, is_enough}
+use Rattle.key_tables.specs.Rows.{key_of, level_of, role_of, receiver_may, lane_of, is_enough}
 use Rattle.judge_rules.specs.declared.verdict.Verdict.{Verdict}
 use Rattle.judge_rules.specs.declared.verdict.Verdict.TheVariants as verdict
 use Rattle.judge_rules.specs.declared.verdict.BadService.TheVariants as bad
@@ -71,12 +71,6 @@ check_payload number t apdu =
     if sync_service t == 3
     then (if (sync_values apdu).0 == number then None else Some (verdict.BadPayload (sync_values apdu).0 number))
     else None
-
--- the channel is the destination's, or the destination has a role on it
-abbrev pub receiver_may : List Row → ℕ → Channel → Bool
-receiver_may rows destination (channel.Group _) = true
-receiver_may rows destination (channel.Tool device) =
-    is_some (key_of rows (channel.Tool (record { 0 = destination }))) || is_some (role_of rows (channel.Tool device) (record { 0 = destination }))
 
 abbrev pub check_sender : List Row → Channel → Telegram → Option Verdict
 check_sender rows c t =

@@ -1,3 +1,4 @@
 pub mod Parts
 pub mod Checks
 pub mod Text
+pub mod NodeLanes

@@ -2,9 +2,9 @@ ghost use Rattle.std.specs.Prelude.{◌≡◌, ◌+◌, ◌/◌, ◌%◌, ◌==�
 ghost use Rattle.cemi_frames.specs.Frames.{telegram};
 ghost use Rattle.secure_apdu.specs.Secure.{bad_secure, HasParts};
 ghost use Rattle.secure_apdu.specs.Sync.{sync_values};
-ghost use Rattle.key_tables.specs.Rows.{key_of};
+ghost use Rattle.key_tables.specs.Rows.{key_of, receiver_may};
 ghost use Rattle.judge_rules.specs.Parts.{sync_service, source_of, service_in};
-ghost use Rattle.judge_rules.specs.Checks.{check_payload, check_sender, receiver_may, opened_checks, last_checks, data_checks, good_verdict, verdict_or, first_failing, lane_in, verdict_on, verdict_of, kept_of, kept_on, kept_by, opened_on, opened_by, is_ask, is_good, IsEntitled};
+ghost use Rattle.judge_rules.specs.Checks.{check_payload, check_sender, opened_checks, last_checks, data_checks, good_verdict, verdict_or, first_failing, lane_in, verdict_on, verdict_of, kept_of, kept_on, kept_by, opened_on, opened_by, is_ask, is_good, IsEntitled};
 
 use crate::data::{data_refusal, service_in};
 use crate::entry::{ANSWER, DATA, Entry, REQUEST, enter};

@@ -6,6 +6,7 @@ mod alarm;
 mod data;
 mod entry;
 mod judgement;
+mod node_lanes;
 #[cfg(test)]
 mod tests;
 mod text;
@@ -14,5 +15,6 @@ mod verdict;
 pub use alarm::is_alarm;
 pub use entry::{lane_of, secure_parts};
 pub use judgement::judge;
+pub use node_lanes::nodes_keep_on_their_lanes;
 pub use text::{put_verdict, write_verdict};
 pub use verdict::{BadService, Judgement, Verdict};

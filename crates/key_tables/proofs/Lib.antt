@@ -2,6 +2,10 @@ mod Firsts
 mod Adding
 mod Expanding
 mod TextLemmas
-mod Unique
+pub mod Unique
 mod Merging
 pub mod Standing
+pub mod LaneOrder
+pub mod NamedLanes
+pub mod SortedLanes
+pub mod SendersLanes

@@ -1,6 +1,6 @@
 -- What a list of rows says of an installation: keys, levels, roles, and the channel and the lane of a frame.
-use Rattle.std.specs.Prelude.{◌≡◌, ℕ, ◌==◌, ◌&&◌, nat_le, Bool, true, false, if◌then◌else◌, List, find, Option, Some, None}
-use Rattle.std.specs.Option.{option_or, option_and_then}
+use Rattle.std.specs.Prelude.{◌≡◌, ℕ, ◌==◌, ◌&&◌, ◌||◌, nat_le, Bool, true, false, if◌then◌else◌, List, find, Option, Some, None}
+use Rattle.std.specs.Option.{is_some, option_or, option_and_then}
 use Rattle.std.specs.List.{list_any, Contains}
 use Rattle.knx_base.specs.declared.address.IndAddr.{IndAddr}
 use Rattle.key_tables.specs.declared.types.Channel.{Channel}
@@ -121,6 +121,12 @@ channel_of rows true false source destination = keyed rows (channel.Group (recor
 channel_of rows false true source destination =
     option_or (keyed rows (channel.Tool (record { 0 = destination }))) (keyed rows (channel.Tool source))
 channel_of rows _ _ source destination = None
+
+-- what a channel asks of the destination: a device's channel is the destination's own, or the destination has a role on it
+abbrev pub receiver_may : List Row → ℕ → Channel → Bool
+receiver_may rows destination (channel.Group _) = true
+receiver_may rows destination (channel.Tool device) =
+    is_some (key_of rows (channel.Tool (record { 0 = destination }))) || is_some (role_of rows (channel.Tool device) (record { 0 = destination }))
 
 -- the lane of a sender on a channel
 abbrev pub lane_of : Channel → IndAddr → Lane

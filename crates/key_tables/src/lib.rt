@@ -4,6 +4,7 @@
 
 mod faults;
 mod key_row;
+mod lane_list;
 mod reading;
 mod row_list;
 mod tables;
@@ -12,6 +13,7 @@ mod tests;
 mod types;
 
 pub use faults::{BuildFault, TablesFault};
+pub use lane_list::{LaneList, lanes};
 pub use reading::read_tables;
 pub use row_list::RowList;
 pub use tables::Tables;

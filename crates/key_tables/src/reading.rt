@@ -6,8 +6,8 @@ ghost use Rattle.key_tables.specs.Text.{two_words, three_words, group_row, tool_
 use crate::{BuildFault, Channel, Level, Role, Row, RowList, TablesFault};
 use hex::FromHex;
 use knx_base::{Cause, GroupAddr, IndAddr};
-use text_lines::{Lines, Words, judge_line};
 use std::alloc::Global;
+use text_lines::{Lines, Words, judge_line};
 
 fn read_group(word: &str) -> Result<GroupAddr, Cause>
     ensures { result ≡ group_named word.now }

@@ -1,5 +1,5 @@
 use crate::{
-    BuildFault, Channel, Lane, Level, Role, Row, RowList, Tables, TablesFault, read_tables,
+    BuildFault, Channel, Lane, Level, Role, Row, RowList, Tables, TablesFault, lanes, read_tables,
 };
 use knx_base::{Cause, GroupAddr, IndAddr};
 use std::alloc::Global;
@@ -262,6 +262,97 @@ fn one_key_too_many_is_refused_at_its_line(rt: HostRuntime) -> Result<(), Fail> 
     assert_eq!(rt;
         text_fault(read_tables(rt.alloc(), text.as_bytes())),
         Some(TablesFault::TooMany(4097))
+    );
+    Ok(())
+}
+
+// Four devices, two groups and four tool keys: each device may command on both groups but the last, which may observe on the
+// first; the first device manages the others, and they may observe on its channel.
+const FOUR_DEVICES: &[u8] = b"group 1/0/1 11111111111111111111111111111111 conf
+group 1/0/2 22222222222222222222222222222222 auth
+tool 1.1.1 31313131313131313131313131313131
+tool 1.1.2 32323232323232323232323232323232
+tool 1.1.3 33333333333333333333333333333333
+tool 1.1.4 34343434343434343434343434343434
+role 1/0/1 1.1.1 command
+role 1/0/1 1.1.2 command
+role 1/0/1 1.1.3 command
+role 1/0/1 1.1.4 observe
+role 1/0/2 1.1.1 command
+role 1/0/2 1.1.2 command
+role 1/0/2 1.1.3 command
+role 1/0/2 1.1.4 command
+role tool:1.1.1 1.1.2 observe
+role tool:1.1.1 1.1.3 observe
+role tool:1.1.1 1.1.4 observe
+role tool:1.1.2 1.1.1 manage
+role tool:1.1.3 1.1.1 manage
+role tool:1.1.4 1.1.1 manage";
+
+const D1: IndAddr = IndAddr(0x1101);
+
+const D2: IndAddr = IndAddr(0x1102);
+
+const D3: IndAddr = IndAddr(0x1103);
+
+const D4: IndAddr = IndAddr(0x1104);
+
+const GROUPS: [GroupAddr; 2] = [GroupAddr(0x0801), GroupAddr(0x0802)];
+
+#[test]
+fn a_device_has_its_lanes_in_their_order(rt: HostRuntime) -> Result<(), Fail> {
+    let rows = read_tables(rt.alloc(), FOUR_DEVICES)?;
+    let first = lanes(rt.alloc(), rows.as_slice(), D1, &GROUPS)?;
+    assert_eq!(rt;
+        first.as_slice(),
+        [
+            Lane::Run(D1),
+            Lane::Run(D2),
+            Lane::Run(D3),
+            Lane::Run(D4),
+            Lane::Tool(D1, D1),
+            Lane::Tool(D1, D2),
+            Lane::Tool(D1, D3),
+            Lane::Tool(D1, D4),
+        ]
+        .as_slice()
+    );
+    let third = lanes(rt.alloc(), rows.as_slice(), D3, &GROUPS[1..])?;
+    assert_eq!(rt;
+        third.as_slice(),
+        [
+            Lane::Run(D1),
+            Lane::Run(D2),
+            Lane::Run(D3),
+            Lane::Run(D4),
+            Lane::Tool(D3, D1),
+            Lane::Tool(D3, D3),
+        ]
+        .as_slice()
+    );
+    assert_eq!(rt; third.place(Lane::Tool(D3, D3)), Some(5));
+    assert_eq!(rt; third.place(Lane::Tool(D3, D2)), None);
+    Ok(())
+}
+
+// The rows stand out of order, one device has no key, and another no role for this one.
+#[test]
+fn without_a_tool_key_it_has_one_for_each_device_that_it_may_send_to(
+    rt: HostRuntime,
+) -> Result<(), Fail> {
+    let rows = [
+        role_on(Channel::Tool(D4), Some(D1), Role::Observe),
+        role_on(Channel::Tool(D3), Some(D1), Role::Manage),
+        role_on(Channel::Tool(D2), Some(D1), Role::Manage),
+        tool_key(D4, KEY),
+        tool_key(D2, KEY),
+        role_on(BLIND, Some(SENDER), Role::Observe),
+        role_on(LAMP, Some(SENDER), Role::Command),
+    ];
+    let lanes = lanes(rt.alloc(), &rows, D1, &[GroupAddr(0x0a03)])?;
+    assert_eq!(rt;
+        lanes.as_slice(),
+        [Lane::Run(SENDER), Lane::Tool(D2, D2), Lane::Tool(D4, D4)].as_slice()
     );
     Ok(())
 }

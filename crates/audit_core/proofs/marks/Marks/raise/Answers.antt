@@ -1,7 +1,7 @@
 use Rattle.std.proofs.Common.{ap, subst, ◌∙◌}
 use Rattle.std.specs.Prelude.{if◌then◌else◌, IsOk}
 use Rattle.std.proofs.lemmas.Bool.{false≢true}
-use Rattle.audit_core.specs.Audit.{same_lane}
+use Rattle.key_tables.specs.Lanes.{same_lane}
 use Rattle.audit_core.specs.Marks.{mark_in}
 use Rattle.audit_core.proofs.Lanes.{mark_updated}
 use Rattle.audit_core.proofs.marks.Marks.raise.Goals.{in-Ok, in-Err}
