@@ -26,11 +26,11 @@ use Rattle.secure_apdu.specs.Sync.{xor_number}
 use Rattle.secure_apdu.specs.SealedFrame.{sealed_frame, sealed_head, sealed_fields, sealed_content}
 use Rattle.key_tables.specs.declared.types.Channel.{Channel}
 use Rattle.key_tables.specs.declared.types.Row.{Row}
-use Rattle.key_tables.specs.Rows.{key_of, role_of}
+use Rattle.key_tables.specs.Rows.{key_of, role_of, receiver_may}
 use Rattle.judge_rules.specs.declared.verdict.Verdict.{Verdict}
 use Rattle.judge_rules.specs.declared.verdict.Verdict.TheVariants as verdict
 use Rattle.judge_rules.specs.Parts.{sync_service, body_in, head_in, number_in, channel_in, source_of}
-use Rattle.judge_rules.specs.Checks.{plain_service, check_payload, check_sender, first_failing, entry_checks, opened_checks, last_checks, key_on, good_verdict, verdict_or, verdict_on, verdict_of, on_channel, receiver_may}
+use Rattle.judge_rules.specs.Checks.{plain_service, check_payload, check_sender, first_failing, entry_checks, opened_checks, last_checks, key_on, good_verdict, verdict_or, verdict_on, verdict_of, on_channel}
 use Rattle.judge_rules.proofs.Judging.{opened_verdict}
 use Rattle.knx_base.specs.declared.address.IndAddr.{IndAddr}
 use Rattle.sync_service.specs.Frames.{ask_head, answer_head, answer_payload}
