@@ -1,5 +1,5 @@
 -- Nothing is kept of a request of a synchronisation.
-use Rattle.std.proofs.Common.{◌≡◌, ℕ, ◌&&◌, ◌++◌, Bool, true, false, List, [], ◌∷◌, Option, Some, None, refl, sym, ap, ◌∙◌}
+use Rattle.std.proofs.Common.{◌≡◌, ℕ, ◌&&◌, Bool, true, false, List, [], ◌∷◌, Option, Some, None, refl, sym, ap, ◌∙◌}
 use Rattle.std.specs.Prelude.{if◌then◌else◌, ◌==◌, nat_lt, slice_index}
 use Rattle.std.specs.Option.{IfSome, is_some}
 use Rattle.std.proofs.lemmas.Bool.{false≢true}

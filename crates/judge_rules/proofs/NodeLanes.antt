@@ -1,8 +1,7 @@
 -- The sender of a telegram that is kept may send, and so it has a lane at the node.
-use Rattle.std.proofs.Common.{◌≡◌, ℕ, Bool, true, false, List, [], ◌∷◌, Option, Some, None, refl, subst}
+use Rattle.std.proofs.Common.{◌≡◌, ℕ, true, false, List, [], ◌∷◌, Option, Some, None, refl, subst}
 use Rattle.std.specs.List.{list_any}
 use Rattle.std.specs.Option.{is_some}
-use Rattle.std.proofs.lemmas.Bool.{false≢true}
 use Rattle.std.proofs.lemmas.Option.{none-some}
 use Rattle.cemi_frames.specs.Frames.{Telegram}
 use Rattle.knx_base.specs.declared.address.GroupAddr.{GroupAddr}
@@ -15,7 +14,7 @@ use Rattle.key_tables.specs.Lanes.{has_lane, is_any, is_to, lanes_of}
 use Rattle.key_tables.proofs.SendersLanes.{lane_there}
 use Rattle.judge_rules.specs.declared.verdict.Verdict.{Verdict}
 use Rattle.judge_rules.specs.Parts.{is_group, has_tool_access, source_of, channel_in, number_in}
-use Rattle.judge_rules.specs.Checks.{entry_checks, code_checks, check_sender, first_failing, on_channel, kept_on, kept_of, kept_by}
+use Rattle.judge_rules.specs.Checks.{entry_checks, code_checks, first_failing, on_channel, kept_on, kept_by}
 use Rattle.judge_rules.specs.NodeLanes.{KeptOnItsLanes}
 use Rattle.judge_rules.proofs.Keeping.{on_other_way, kept_of-parts}
 use Rattle.judge_rules.proofs.Entitling.{both_where}
