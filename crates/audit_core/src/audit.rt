@@ -16,7 +16,8 @@ use secure_apdu::ApduBuf;
 use std::alloc::Global;
 use std::marker::Model;
 
-/// An audit under way: the rows that frames are judged under, the marks and the challenges that the frames so far left, and the
+/// An audit under way: the rows that frames are judged under, the marks and the challenges that the frames so far
+/// left, and the
 /// total of their lines.
 #[derive(Drop)]
 pub struct Audit {
@@ -46,7 +47,8 @@ impl Audit {
         }
     }
 
-    /// The line of the next record. Where its code is right `apdu` has the APDU that was opened, else no octets. Where there is no
+    /// The line of the next record. Where its code is right `apdu` has the APDU that was opened, else no octets.
+    /// Where there is no
     /// memory nothing has changed.
     pub fn frame(&mut self, octets: &[u8], apdu: &mut ApduBuf) -> Result<Line, NoMemory>
         requires few { self.old.total.records < 2 ^ 64 - 1 }

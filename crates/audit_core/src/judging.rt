@@ -15,7 +15,8 @@ use key_tables::Tables;
 use knx_base::NoMemory;
 use secure_apdu::ApduBuf;
 
-/// The line of a record under what the frames so far left behind, to which it adds its own. Without memory nothing has changed.
+/// The line of a record under what the frames so far left behind, to which it adds its own. Without memory nothing
+/// has changed.
 pub(crate) fn judge_next(
     tables: &Tables,
     past: &mut Past,

@@ -4,7 +4,8 @@ use aes_modes::Key128;
 use knx_base::{IndAddr, Number48};
 use secure_apdu::xor_number;
 
-/// The law of a synchronisation: what `sync_service::ask` and `answer` write is judged as what it is, with its numbers, under rows
+/// The law of a synchronisation: what `sync_service::ask` and `answer` write is judged as what it is, with its
+/// numbers, under rows
 /// whose channel of the frame has the key, and an answer under its challenge; or its sender may not send.
 pub fn exchange_is_judged(
     key: &Key128,

@@ -48,7 +48,8 @@ impl Past {
         self.asked.asked(receiver(frame), frame.source)
     }
 
-    /// Takes what a judgement leaves behind. Either a number is kept or a challenge is noted, so that without memory nothing has
+    /// Takes what a judgement leaves behind. Either a number is kept or a challenge is noted, so that without
+    /// memory nothing has
     /// changed.
     pub(crate) fn take(&mut self, frame: &Frame<'_>, judgement: &Judgement) -> Result<(), NoMemory>
         requires ask_keeps_nothing { is_ask judgement.now.verdict ≡ true → judgement.now.keeps ≡ None }

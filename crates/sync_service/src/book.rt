@@ -6,7 +6,8 @@ use std::alloc::Global;
 use std::collections::BTreeMap;
 use std::marker::Model;
 
-/// The challenges of all devices that wait for their answers. A contract sees each requester and responder with their challenge.
+/// The challenges of all devices that wait for their answers. A contract sees each requester and responder with
+/// their challenge.
 #[derive(Drop)]
 pub struct AskedBook {
     challenges: BTreeMap<(IndAddr, IndAddr), [u8; 6]>,

@@ -11,7 +11,8 @@ const ASK_FIELD: u8 = 0x92;
 // The same of its answer.
 const ANSWER_FIELD: u8 = 0x93;
 
-/// Writes the request of a synchronisation (docs/RULES.md): sealed under a number of the requester, it carries the challenge.
+/// Writes the request of a synchronisation (docs/RULES.md): sealed under a number of the requester, it carries the
+/// challenge.
 pub fn ask(
     key: &Key128,
     source: IndAddr,
@@ -26,7 +27,8 @@ pub fn ask(
     seal_frame(key, &head, &challenge, out);
 }
 
-/// Writes the answer to a request (docs/RULES.md): sealed under a number of the responder, it shows the request's challenge XOR that
+/// Writes the answer to a request (docs/RULES.md): sealed under a number of the responder, it shows the request's
+/// challenge XOR that
 /// number, and carries the number and the greatest one that the responder kept of the requester.
 pub fn answer(
     key: &Key128,

@@ -11,7 +11,8 @@ pub struct OpenChallenge {
     pub challenge: [u8; 6],
 }
 
-/// The challenge of a device's last request, while it waits for its answer. A contract sees none, or one peer and challenge.
+/// The challenge of a device's last request, while it waits for its answer. A contract sees none, or one peer and
+/// challenge.
 #[derive(Clone, Copy, Debug, PartialEq, Eq)]
 pub struct Pending {
     last: Option<OpenChallenge>,
