@@ -3,6 +3,7 @@
 
 mod auditing;
 mod ending;
+mod exit;
 mod frame_word;
 mod keyring;
 mod obey;
@@ -17,5 +18,6 @@ mod top;
 mod whole_file;
 mod words;
 
+pub use exit::conclude;
 pub use status::Status;
 pub use top::run;

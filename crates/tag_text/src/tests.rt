@@ -244,3 +244,20 @@ fn a_fault_says_its_place(rt: HostRuntime) -> Result<(), Fail> {
     );
     Ok(())
 }
+
+#[test]
+fn an_element_has_as_many_attributes_as_it_likes(rt: HostRuntime) -> Result<(), Fail> {
+    let mut document = String::new(rt.alloc());
+    document.push_str("<a")?;
+    for number in 0..1000u32 {
+        write!(document, " n{number}='{number}'")?;
+    }
+    document.push_str("/>")?;
+    let mut reader = TagReader::new(document.as_bytes());
+    let Tag::Start { attributes, .. } = reader.next(rt.alloc())? else {
+        return Err(Fail::from("no start"));
+    };
+    assert_eq!(rt; attributes.len(), 1000);
+    assert_eq!(rt; attributes.get("n999"), Some("999"));
+    Ok(())
+}

@@ -51,7 +51,7 @@ fn audited(
 ) -> Result<(MemSink, Status), Fail>
     requires numbered { (1 ≤ failing) × (failing ≤ 1000000) }
 {
-    if tables.len() > 1000 || frames.len() > 1000 {
+    if tables.len() > 1000 || frames.len() > 20_000 {
         return Err(Fail::from("a short text"));
     }
     let words = audit_words(alloc)?;
@@ -59,7 +59,7 @@ fn audited(
     files.add("tables", tables.as_bytes())?;
     files.add("frames", frames.as_bytes())?;
     files.fail_at(failing)?;
-    let mut out = MemSink::new(alloc, 1000)?;
+    let mut out = MemSink::new(alloc, 30_000)?;
     let status = run(alloc, &words, &mut files, &mut out);
     Ok((out, status))
 }
@@ -228,6 +228,25 @@ fn an_audit_of_the_host_s_files(rt: HostRuntime) -> Result<(), Fail> {
     let mut files = HostFiles::new(&rt);
     let mut out = HostSink::new(&rt);
     let status = run(rt.alloc(), &words, &mut files, &mut out);
+    assert_eq!(rt; status, Status::Alarm);
+    Ok(())
+}
+
+// The telegram of 1.1.7 under the addresses of 300 senders, 1.1.7 among them.
+fn senders(alloc: Global) -> Result<String, Fail> {
+    let mut frames = String::new(alloc);
+    for sender in 0x1100..0x122cu32 {
+        write!(frames, "2900bce0{sender:04x}0a030e03f1100000000000050d5858028267\n")?;
+    }
+    Ok(frames)
+}
+
+#[test]
+fn each_sender_has_a_mark_of_its_own(rt: HostRuntime) -> Result<(), Fail> {
+    let frames = senders(rt.alloc())?;
+    let (out, status) = audited(rt.alloc(), TABLES, frames.as_str(), 1_000_000)?;
+    let total = b"\ntotal 300 accepted 1 sync 0 alarms 299\n";
+    assert!(rt; out.bytes().ends_with(total));
     assert_eq!(rt; status, Status::Alarm);
     Ok(())
 }
