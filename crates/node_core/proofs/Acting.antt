@@ -1,5 +1,6 @@
 -- The raise of a mark, and then all else that a telegram does: the two come together as one transition.
-use Rattle.std.proofs.Common.{◌≡◌, ℕ, ◌++◌, List, Option, Some, None, subst, ap, ◌∙◌}
+use Rattle.std.specs.Prelude.{◌≢◌}
+use Rattle.std.proofs.Common.{◌≡◌, ℕ, ◌++◌, List, [], ◌∷◌, Option, Some, None, subst, ap, ◌∙◌}
 use Rattle.knx_base.specs.declared.address.IndAddr.{IndAddr}
 use Rattle.key_tables.specs.declared.types.Lane.{Lane}
 use Rattle.judge_rules.specs.declared.verdict.Verdict.{Verdict}
@@ -38,6 +39,10 @@ kept_then_stops {fault = fault} {a = a} {b = b} {p = p} {q = q} {place = place} 
     subst (λ place. Runs s.numbers (kept_raises place kept' ++ ys) (Some fault) a b p q) same_place
     (subst (λ kept. Runs s.numbers (kept_raises place kept ++ ys) (Some fault) a b p q) same_kept (runs_stop ys first))
 
+more_is_some : (xs ys : List Raise) → ys ≢ [] → (xs ++ ys) ≢ []
+more_is_some [] ys some = some
+more_is_some (x ∷ xs) ys some = λ is. absurd cc
+
 -- The same of what a call does.
 pub kept_then_does : {M : Type 0} {answer : Option NvmFault} {result : Outcome} {old mid new : NodeState M} {out out' : List ℕ} {place place' : Option ℕ} {kept kept' : Kept}
     → place ≡ place' → kept ≡ kept'
@@ -57,6 +62,7 @@ kept_then_does {answer = answer} {result = result} {old = old} {mid = mid} {new 
     record {
       done = λ ok. let d = at_once.done ok in record { outcome_is = d.outcome_is; standing_is = d.standing_is; out_is = d.out_is; runs = d.runs };
       stopped = λ is. let d = at_once.stopped is in record {
+        was_raising = more_is_some (kept_raises place' kept') _ d.was_raising;
         values = d.values ∙ ap (λ (s : Standing). s.values) same_standing;
         pending = d.pending ∙ ap (λ (s : Standing). s.pending) same_standing;
         out_is = d.out_is;
