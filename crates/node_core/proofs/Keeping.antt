@@ -53,7 +53,7 @@ both true true is = (refl, refl)
 both true false is = absurd cc
 both false b is = absurd cc
 
-lane_kept : Lane → Kept → Lane
+abbrev lane_kept : Lane → Kept → Lane
 lane_kept other None = other
 lane_kept other (Some kept) = kept.0
 
@@ -108,7 +108,7 @@ keeps_on_lanes address rows objects senders t mark asked kept is_for is_kept =
         (on_channel None (channel_in rows t) (λ c. kept_on rows mark number c t)) is_kept in
     let found = of_channel (channel_in rows t) kept (λ c. kept_on rows mark number c t) entered.1 in
     let c = found.0 in
-    let opened = unless_failed (is_some (first_failing (code_checks rows number c t))) kept (kept_of mark number c t) found.1.1 in
+    let opened = unless_failed (is_some (first_failing (code_checks rows number c t))) kept (kept_of mark number c t) found.2 in
     let passed = third_passes (check_code (key_on rows c) number t) (check_payload number t (apdu_in (key_on rows c) number t))
         (check_sender rows c t) opened.0 in
     let may = both (is_some (role_of rows c (source_of t))) (receiver_may rows t.destination c)
@@ -117,4 +117,4 @@ keeps_on_lanes address rows objects senders t mark asked kept is_for is_kept =
     subst (λ l. has_lane (lanes_of rows address (groups_of objects)) l ≡ true) lane
     (senders (is_group t) (has_tool_access t) (source_of t) t.destination c
     (for_node address objects (is_group t) t.destination is_for)
-    (channel_parts rows t ∙ found.1.0) may.0 (sym (same_may rows t.destination c) ∙ may.1))
+    (channel_parts rows t ∙ found.1) may.0 (sym (same_may rows t.destination c) ∙ may.1))

@@ -1,3 +1,4 @@
 mod Starting
 mod Keeping
 mod Raising
+mod Acting

@@ -1,17 +1,14 @@
-ghost use Rattle.std.specs.Prelude.{◌≡◌, ◌+◌, length, IfOk};
-ghost use Rattle.node_core.specs.Node.{config_state, node_state};
-
-use crate::{Act, Config, ConfigFault, Node, Outcome, SendFault};
-use group_objects::{Flags, ObjectRow, ObjectsFault, SendService, SetFault, Value};
+use crate::{Act, Config, Node, Outcome, SendFault};
 use cemi_frames::NotFrame;
+use group_objects::{Flags, ObjectRow, SendService, SetFault, Value};
 use judge_rules::Verdict;
-use key_tables::{BuildFault, Channel, Lane, Level, Role, Row};
+use key_tables::{Channel, Lane, Level, Role, Row};
 use knx_base::{GroupAddr, IndAddr, Number48};
 use nvm_model::trial::FailingNvm;
 use nvm_model::{Nvm, NvmFault, SimNvm};
 use plain_apdu::{BadObject, Service};
 use secure_apdu::FrameBuf;
-use seq_store::{StoreFault, format_store, store_size};
+use seq_store::{format_store, store_size};
 use std::alloc::Global;
 use std::test::Fail;
 
@@ -126,6 +123,13 @@ fn new_node<M: Nvm + Drop>(alloc: Global, config: Config, mut memory: M) -> Resu
     }
     if format_store(&mut memory, number(0)?, &marks).is_err() {
         return Err(Fail::from("not formatted"));
+    }
+    started(alloc, config, memory)
+}
+
+fn started<M: Nvm + Drop>(alloc: Global, config: Config, memory: M) -> Result<Node<M>, Fail> {
+    if memory.size() != store_size(config.lanes().len()) {
+        return Err(Fail::from("another size"));
     }
     match Node::start(alloc, config, memory) {
         Ok(node) => Ok(node),
@@ -293,7 +297,8 @@ fn what_is_not_sent(rt: HostRuntime) -> Result<(), Fail> {
         }
         assert_eq!(rt; node.send(object, SendService::Write, &mut out), Err(fault));
     }
-    let values = [(2, bits(1)?, Err(SetFault::NoObject)), (0, bits(1)?, Ok(())), (0, eight(1)?, Err(SetFault::Size))];
+    let octet = Value::octets(&[1]).ok_or("an octet")?;
+    let values = [(2, bits(1)?, Err(SetFault::NoObject)), (0, bits(1)?, Ok(())), (0, octet, Err(SetFault::Size))];
     for (object, value, answer) in values {
         if !node.is_running() {
             return Err(Fail::from("not running"));

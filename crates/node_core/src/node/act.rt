@@ -185,9 +185,7 @@ impl<M: Nvm> Node<M> {
         let Some(value) = self.value(object) else {
             return Outcome::Ignored;
         };
-        let mut apdu = [0; 16];
-        let size = SendService::Response.write_apdu(&value, &mut apdu);
-        let reply = match self.send_group(group, &apdu[..size], out) {
+        let reply = match self.send_value(group, SendService::Response, value, out) {
             Ok(reply) => Some(reply),
             Err(SendFault::Memory(fault)) => return Outcome::Stopped(fault),
             Err(_) => None,

@@ -2,7 +2,7 @@ ghost use Rattle.std.specs.Prelude.{◌≡◌, ◌≢◌, ◌≤◌, Some, true,
 ghost use Rattle.std.specs.Result.{result_err};
 ghost use Rattle.nvm_model.specs.Nvm.{State};
 ghost use Rattle.seq_store.specs.Runs.{Runs};
-ghost use Rattle.key_tables.specs.declared.types.Channel.TheVariants as channel;
+ghost use Rattle.group_objects.specs.Apdus.{service_apdu};
 ghost use Rattle.node_core.specs.Laws.{LeavesRaised};
 ghost use Rattle.node_core.specs.Message.{message_frame, IsSendable};
 ghost use Rattle.node_core.specs.Node.{node_state, send_stop, Does};
@@ -75,13 +75,32 @@ impl<M: Nvm> Node<M> {
         if !row.flags.transmits {
             return Err(SendFault::Flag);
         }
+        self.send_value(row.group, service, value, out)
+    }
+
+    // Seals a telegram of this service with a value for a group.
+    pub(crate) fn send_value(
+        &mut self,
+        group: GroupAddr,
+        service: SendService,
+        value: Value,
+        out: &mut FrameBuf,
+    ) -> Result<Number48, SendFault>
+        requires running { (node_state self.old).running ≡ true }
+        ensures does { let old = node_state self.old in
+            Does (group_transition old.config old.standing group (service_apdu service value)) (send_stop result) result
+            old (node_state self.new) out.old out.new }
+        ensures runs { let old = node_state self.old in let new = node_state self.new in
+            Runs old.standing.numbers (group_transition old.config old.standing group (service_apdu service value)).raises
+            (send_stop result) (M.state old.memory) (M.state new.memory) (M.images old.memory) (M.images new.memory) }
+    {
         let mut apdu = [0; 16];
         let size = service.write_apdu(&value, &mut apdu);
-        self.send_group(row.group, &apdu[..size], out)
+        self.send_group(group, &apdu[..size], out)
     }
 
     // Seals an APDU for a group.
-    pub(crate) fn send_group(
+    fn send_group(
         &mut self,
         group: GroupAddr,
         apdu: &[u8],
