@@ -115,25 +115,25 @@ fn push(alloc: Global) -> Result<Config, Fail> {
     config(alloc, PUSH, &[object(GROUP, TRANSMITS, 1)?])
 }
 
-// Formats a memory with zeros and starts a node over it.
-fn new_node<M: Nvm + Drop>(alloc: Global, config: Config, mut memory: M) -> Result<Node<M>, Fail> {
+// Formats a memory with zeros and starts a node over it; None where the memory fails.
+fn node_over<M: Nvm + Drop>(alloc: Global, config: Config, mut memory: M) -> Result<Option<Node<M>>, Fail> {
     let marks = vec![in alloc; number(0)?; config.lanes().len()]?;
     if memory.size() != store_size(marks.len()) {
         return Err(Fail::from("another size"));
     }
     if format_store(&mut memory, number(0)?, &marks).is_err() {
-        return Err(Fail::from("not formatted"));
+        return Ok(None);
     }
     started(alloc, config, memory)
 }
 
-fn started<M: Nvm + Drop>(alloc: Global, config: Config, memory: M) -> Result<Node<M>, Fail> {
+fn started<M: Nvm + Drop>(alloc: Global, config: Config, memory: M) -> Result<Option<Node<M>>, Fail> {
     if memory.size() != store_size(config.lanes().len()) {
         return Err(Fail::from("another size"));
     }
     match Node::start(alloc, config, memory) {
-        Ok(node) => Ok(node),
-        Err(_) => Err(Fail::from("not started")),
+        Ok(node) => Ok(Some(node)),
+        Err(_) => Ok(None),
     }
 }
 
@@ -194,7 +194,7 @@ fn stale(kept: u64, got: u64) -> Result<Outcome, Fail> {
 
 fn over_sim(alloc: Global, config: Config) -> Result<Node<SimNvm>, Fail> {
     let size = store_size(config.lanes().len());
-    new_node(alloc, config, SimNvm::new(alloc, size)?)
+    Ok(node_over(alloc, config, SimNvm::new(alloc, size)?)?.ok_or("a node")?)
 }
 
 fn marks<M: Nvm>(alloc: Global, node: &Node<M>) -> Result<Vec<u64>, Fail> {
@@ -248,7 +248,7 @@ fn a_stop_comes_before_the_act(rt: HostRuntime) -> Result<(), Fail> {
     let mut stops = 0;
     for call in 1..=30 {
         let memory = FailingNvm::new(alloc, size, call, 0xa5)?;
-        let Ok(mut node) = new_node(alloc, lamp(alloc)?, memory) else {
+        let Some(mut node) = node_over(alloc, lamp(alloc)?, memory)? else {
             continue;
         };
         let mut out = FrameBuf::new();
@@ -278,7 +278,7 @@ fn a_cut_before_the_mark_leaves_the_telegram(rt: HostRuntime) -> Result<(), Fail
     assert_eq!(rt; receive(&mut node, &write, &mut out)?, Outcome::Stopped(NvmFault::Cut));
     let (config, mut memory) = node.cut();
     memory.power_on();
-    let mut node = started(alloc, config, memory)?;
+    let mut node = started(alloc, config, memory)?.ok_or("a node")?;
     assert_eq!(rt; receive(&mut node, &write, &mut out)?, Outcome::Stopped(NvmFault::Failed));
     Ok(())
 }
