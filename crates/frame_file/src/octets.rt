@@ -3,8 +3,8 @@ ghost use Rattle.hex.specs.Hex.{decode_of};
 ghost use Rattle.frame_file.specs.Records.{record_of, record_of_digits, said_by};
 
 use knx_base::Cause;
-use text_lines::judge_line;
 use std::marker::Model;
+use text_lines::judge_line;
 
 /// The most octets that a line writes, two digits each.
 const ROOM: usize = 512;

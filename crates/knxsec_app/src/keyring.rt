@@ -16,8 +16,8 @@ use crate::whole_file::WholeFile;
 use crate::words::KeyringNames;
 use keyring_reader::{Keyring, read_keyring};
 use knx_base::{Files, Sink};
-use text_lines::Lines;
 use std::alloc::Global;
+use text_lines::Lines;
 
 /// Judges the records of a file under tables and, where they say nothing of a channel, under the rows of a keyring.
 pub(crate) fn audit_by_keyring<F: Files, S: Sink>(

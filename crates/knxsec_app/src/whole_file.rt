@@ -8,8 +8,8 @@ ghost use Rattle.knxsec_app.specs.Ends.{EndsReading, OthersStay, Stops, status_o
 use crate::Status;
 use crate::refusing::refuse_whole;
 use knx_base::{Files, Sink};
-use text_lines::{FileFault, read_all};
 use std::alloc::Global;
+use text_lines::{FileFault, read_all};
 
 /// A file that is read whole before it is judged.
 #[derive(Clone, Copy)]

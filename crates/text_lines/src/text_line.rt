@@ -4,8 +4,8 @@ ghost use Rattle.knx_base.specs.Faults.{HasCause};
 ghost use Rattle.knx_base.specs.Files.{Seen};
 ghost use Rattle.text_lines.specs.Reading.{GoesOn, ReadsLine, least_of};
 
-use crate::lines::MOST_OCTETS;
 use crate::Source;
+use crate::lines::MOST_OCTETS;
 use knx_base::{Failed, Files};
 use std::marker::Model;
 

@@ -236,7 +236,10 @@ fn an_audit_of_the_host_s_files(rt: HostRuntime) -> Result<(), Fail> {
 fn senders(alloc: Global) -> Result<String, Fail> {
     let mut frames = String::new(alloc);
     for sender in 0x1100..0x122cu32 {
-        write!(frames, "2900bce0{sender:04x}0a030e03f1100000000000050d5858028267\n")?;
+        write!(
+            frames,
+            "2900bce0{sender:04x}0a030e03f1100000000000050d5858028267\n"
+        )?;
     }
     Ok(frames)
 }

@@ -40,6 +40,59 @@ const FRAMES: &str =
 const REPORT: &str =
     "1 1.1.10 > 1/0/1 accepted number 1 GroupValue_Write 0081\n2 1.1.20 > 1/0/6 accepted number 12 GroupValue_Write 0081\ntotal 2 accepted 2 sync 0 alarms 0\n";
 
+/// The tables, the recording and the report of the folder `examples`: its telegrams were sealed by another program, and its report
+/// was written by the rules.
+const HOUSE_TABLES: &str = r#"# What the keyring does not say, or says too widely.
+# 1/0/1 switches lamps: its telegrams have to be encrypted.
+group 1/0/1 01010101010101010101010101010101 conf
+# 1/0/4 is written by the gateway 1.1.20 alone; the sensor 1.1.30 may read it.
+role 1/0/4 1.1.20 command
+role 1/0/4 1.1.30 observe
+"#;
+
+const HOUSE_FRAMES: &str = r#"# A morning at the house, one telegram a line.
+# the push button 1.1.10 switches the lamp on
+2900bce0110a08010e03f1100000000003e94011881e6368
+# the link layer repeats it, since nobody acknowledged
+29009ce0110a08010e03f1100000000003e94011881e6368
+# the thermostat 1.1.12 sends 21.00 degrees
+29003ce0110c08031003f1100000000003e9917cbbddf7fd35e8
+# somebody sends the recorded telegram of line 1 once more
+2900bce0110a08010e03f1100000000003e94011881e6368
+# a telegram with one octet changed
+2900bce0110a08010e03f1100000000003eaa9b1a41365b7
+# a telegram that is not secure, to the secured group
+2900bce011090801010081
+# an authentic telegram that anybody can read, where the tables ask for encryption
+2900bce0110b08010e03f1000000000003e900816b9cf7ef
+# the sensor 1.1.30 writes, and may only read; then it reads
+2900bce0111e08040e03f11000000000004ddcd26e85f44d
+2900bce0111e08040e03f11000000000004e987cd3eac4b1
+# 1.1.5 has the key, and no interface lists it as a sender
+2900bce0110508010e03f110000000000003082964b5118a
+# the tool 1.1.1 asks the push button what device it is
+2900bc601101110a0e03f190000000000007b71149efb098
+# a group of which we have no key, and one that is not secured
+2900bce0110a08090e03f1100000000003eb2ab1af12c531
+2900bce011090d01010081
+"#;
+
+const HOUSE_REPORT: &str = r#"1 1.1.10 > 1/0/1 accepted number 1001 GroupValue_Write 0081
+2 1.1.10 > 1/0/1 repeat stale kept 1001 got 1001
+3 1.1.12 > 1/0/3 accepted number 1001 GroupValue_Write 00800c1a
+4 1.1.10 > 1/0/1 stale kept 1001 got 1001 !
+5 1.1.10 > 1/0/1 bad-code said 0350dbfa computed 0350dbfb !
+6 1.1.9 > 1/0/1 plain GroupValue_Write !
+7 1.1.11 > 1/0/1 level !
+8 1.1.30 > 1/0/4 role needs command has observe !
+9 1.1.30 > 1/0/4 accepted number 78 GroupValue_Read 0000
+10 1.1.5 > 1/0/1 sender !
+11 1.1.1 > 1.1.10 accepted number 7 DeviceDescriptor_Read 0300
+12 1.1.10 > 1/0/9 no-key
+13 1.1.9 > 1/5/1 plain GroupValue_Write
+total 13 accepted 4 sync 0 alarms 6
+"#;
+
 /// The number of a call that is never made.
 const NEVER: u64 = 1_000_000;
 
@@ -61,11 +114,12 @@ fn audited(
     keyring: &str,
     password: &str,
     tables: &str,
+    frames: &str,
     failing: u64,
 ) -> Result<(MemSink, Status), Fail>
     requires numbered { (1 ≤ failing) × (failing ≤ 1000000) }
 {
-    if keyring.len() > 5000 || password.len() > 5000 || tables.len() > 1000 {
+    if keyring.len() > 5000 || password.len() > 5000 || tables.len() > 1000 || frames.len() > 5000 {
         return Err(Fail::from("a short text"));
     }
     let words = audit_words(alloc)?;
@@ -73,7 +127,7 @@ fn audited(
     files.add("keyring", keyring.as_bytes())?;
     files.add("password", password.as_bytes())?;
     files.add("tables", tables.as_bytes())?;
-    files.add("frames", FRAMES.as_bytes())?;
+    files.add("frames", frames.as_bytes())?;
     files.fail_at(failing)?;
     let mut out = MemSink::new(alloc, 1000)?;
     let status = run(alloc, &words, &mut files, &mut out);
@@ -87,7 +141,7 @@ fn a_keyring_opens_its_telegrams(rt: HostRuntime) -> Result<(), Fail> {
         "test-password\n",
         "test-password\r\nmore\n",
     ] {
-        let (out, status) = audited(rt.alloc(), HOUSE, password, "", NEVER)?;
+        let (out, status) = audited(rt.alloc(), HOUSE, password, "", FRAMES, NEVER)?;
         assert_eq!(rt; out.bytes(), REPORT.as_bytes());
         assert_eq!(rt; status, Status::Done);
     }
@@ -95,17 +149,16 @@ fn a_keyring_opens_its_telegrams(rt: HostRuntime) -> Result<(), Fail> {
 }
 
 #[test]
-fn tables_stand_over_the_keyring(rt: HostRuntime) -> Result<(), Fail> {
+fn the_house_of_the_examples_has_its_report(rt: HostRuntime) -> Result<(), Fail> {
     let (out, status) = audited(
         rt.alloc(),
         HOUSE,
         "test-password",
-        "role 1/0/1 any observe",
+        HOUSE_TABLES,
+        HOUSE_FRAMES,
         NEVER,
     )?;
-    let report =
-        b"1 1.1.10 > 1/0/1 role needs command has observe !\n2 1.1.20 > 1/0/6 accepted number 12 GroupValue_Write 0081\ntotal 2 accepted 1 sync 0 alarms 1\n";
-    assert_eq!(rt; out.bytes(), report.as_slice());
+    assert_eq!(rt; out.bytes(), HOUSE_REPORT.as_bytes());
     assert_eq!(rt; status, Status::Alarm);
     Ok(())
 }
@@ -132,7 +185,7 @@ fn refused_files_end_the_report(rt: HostRuntime) -> Result<(), Fail> {
         ),
     ];
     for (keyring, password, tables, report) in rows {
-        let (out, status) = audited(alloc, keyring, password, tables, NEVER)?;
+        let (out, status) = audited(alloc, keyring, password, tables, FRAMES, NEVER)?;
         assert_eq!(rt; out.bytes(), report.as_bytes());
         assert_eq!(rt; status, Status::Refused);
     }
@@ -142,7 +195,7 @@ fn refused_files_end_the_report(rt: HostRuntime) -> Result<(), Fail> {
 #[test]
 fn another_document_has_another_signature(rt: HostRuntime) -> Result<(), Fail> {
     let changed = HOUSE.replace(rt.alloc(), "House", "Hause")?;
-    let (out, status) = audited(rt.alloc(), &changed, "test-password", "", NEVER)?;
+    let (out, status) = audited(rt.alloc(), &changed, "test-password", "", FRAMES, NEVER)?;
     assert!(rt; out.bytes().starts_with(b"refused keyring signature "));
     assert_eq!(rt; status, Status::Refused);
     Ok(())
@@ -153,7 +206,7 @@ fn a_fault_of_reading_before_the_first_line_leaves_nothing_written(
     rt: HostRuntime,
 ) -> Result<(), Fail> {
     for call in [1, 2, 3, 4, 5, 6, 7, 8, 9] {
-        let (out, status) = audited(rt.alloc(), HOUSE, "test-password", "", call)?;
+        let (out, status) = audited(rt.alloc(), HOUSE, "test-password", "", FRAMES, call)?;
         assert_eq!(rt; out.bytes(), b"".as_slice());
         assert_eq!(rt; status, Status::ReadFault);
     }
