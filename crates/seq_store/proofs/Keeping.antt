@@ -11,7 +11,7 @@ use Rattle.seq_store.specs.Laws.{Ready, restore, restore_reserved, MayRaise, Has
 use Rattle.seq_store.specs.Layout.{most_lanes, store_size, raise_writes}
 use Rattle.seq_store.specs.Runs.{Numbers, RestoresNumbers, marks_from, numbers_in, Raise, Reserve, Mark, value_raised, number_raised, IsAbove, AreAbove, after_raise, after_raises, writes_of, RestoresSome}
 use Rattle.seq_store.proofs.Strikes.{strike_reached, strike_whole}
-use Rattle.seq_store.proofs.Cells.{raises_whole}
+use Rattle.seq_store.proofs.RaiseLaws.{raises_whole}
 use Rattle.seq_store.proofs.Starts.{restores_ready}
 use Rattle.seq_store.proofs.Restored.{InRange, restores_raised, restores_some, numbers_restored}
 use Rattle.seq_store.proofs.Running.{same_lanes, some_now}

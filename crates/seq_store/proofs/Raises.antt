@@ -9,7 +9,7 @@ use Rattle.seq_store.specs.Agrees.{Agrees}
 use Rattle.seq_store.specs.Draws.{reservation_for}
 use Rattle.seq_store.specs.Layout.{most_lanes, value_of, raise_writes}
 use Rattle.seq_store.specs.Laws.{Ready, IsRaised, MayRaise, HasRaiseLaws, Raises}
-use Rattle.seq_store.proofs.Cells.{raises_whole}
+use Rattle.seq_store.proofs.RaiseLaws.{raises_whole}
 use Rattle.seq_store.proofs.Restored.{restores_marked, restores_reserved}
 use Rattle.seq_store.proofs.Starts.{restores_ready}
 

@@ -6,5 +6,6 @@ pub mod Laws
 pub mod Layout
 pub mod Lives
 pub mod Refusal
+pub mod Ring
 pub mod Runs
 pub mod Store

@@ -1,38 +1,60 @@
-//! Where a memory keeps its numbers. This module alone knows places.
-ghost use Rattle.std.specs.Prelude.{◌≡◌, ◌≢◌, ℕ, ◌+◌, ◌*◌, ◌^◌, ◌<◌, ◌≤◌, true, List, length, Some, None, Err, All, EachIndex, slice_index, IfOk, OnOk, IsOk};
+//! Where a memory keeps its numbers. This module, `bank` and `format` alone know places.
+ghost use Rattle.std.specs.Prelude.{◌≡◌, ◌≢◌, ℕ, ◌+◌, ◌*◌, ◌^◌, ◌<◌, ◌≤◌, true, false, List, length, Some, None, Err, slice_index, IfOk, OnOk, IsOk};
+ghost use Rattle.nvm_model.specs.Gate.{is_open, gated_writes};
 ghost use Rattle.nvm_model.specs.Nvm.{Makes, Reads, fault_of};
 ghost use Rattle.nvm_model.specs.Plan.{unarmed};
-ghost use Rattle.mark_cells.specs.Cell.{reading};
 ghost use Rattle.seq_store.specs.Refusal.{reading_fault};
 ghost use Rattle.seq_store.specs.Laws.{Restores, MayRaise, Raises};
-ghost use Rattle.seq_store.specs.Layout.{most_lanes, store_size, place_of, value_of, formatted_memory, formatting_writes};
+ghost use Rattle.seq_store.specs.Layout.{width, most_lanes, store_size, place_of, value_of, raise_writes, formatted_memory, formatting_writes};
+ghost use Rattle.seq_store.specs.Ring.{record_body};
 
 use crate::StoreFault;
+use crate::bank::{bank_size, bank_value, banks_of, first_shut, next_body};
 use knx_base::Number48;
-use mark_cells::{CELL_SIZE, CellFault, cell_reading, format_cell, raise_cell, read_cell};
-use nvm_model::{Nvm, NvmFault};
+use nvm_model::{Nvm, NvmFault, OPEN, write_gated};
+
+// The octets of a memory of 64 lanes, and what stands behind the gate of one of its banks.
+const MOST: usize = 1054;
+
+const MOST_BODY: usize = 526;
 
 /// The number of octets of a memory of so many lanes.
 pub fn store_size(lanes: usize) -> usize
     requires lanes_fit { lanes ≤ most_lanes }
     ensures size { result ≡ store_size lanes }
 {
-    CELL_SIZE * (1 + lanes)
+    2 * bank_size(1 + lanes)
 }
 
-// The place of the cell of this value.
-#[tactic(auto, unfolding(crate::specs::Layout::place_of))]
-fn place_of(lanes: usize, value: usize) -> usize
+/// This value of an image, or None where no bank is open: value 0 is the last reserved number, and value 1 + i the mark of
+/// lane i.
+#[tactic(auto, unfolding(crate::specs::Layout::value_of))]
+pub fn stored_value(image: &[u8], lanes: usize, value: usize) -> Option<Number48>
+    requires size { length image.now ≡ store_size lanes }
     requires lanes_fit { lanes ≤ most_lanes }
     requires in_range { value ≤ lanes }
-    ensures place { result ≡ place_of lanes value }
-    ensures cell { result ≡ 14 * value }
-    ensures inside { result + 14 ≤ store_size lanes }
+
+    ensures value { result ≡ value_of lanes image.now value }
 {
-    CELL_SIZE * value
+    match banks_of(image, 1 + lanes) {
+        Some(banks) => Some(bank_value(image, 1 + lanes, banks.current, value)),
+        None => None,
+    }
+}
+
+/// Reads the whole of a memory into an image of its size.
+pub(crate) fn read_all<M: Nvm>(memory: &mut M, image: &mut [u8]) -> Result<(), NvmFault>
+    requires size { length image.old ≡ length (M.state memory.old).octets }
+    requires some { 0 < length image.old }
+    ensures octets { OnOk result (image.new ≡ (M.state memory.old).octets) }
+    ensures reads { Reads (fault_of result)
+        (M.state memory.old) (M.state memory.new) (M.images memory.old) (M.images memory.new) }
+{
+    memory.read(0, image)
 }
 
 // Reads this value.
+#[tactic(auto, unfolding(crate::specs::Layout::place_of))]
 pub(crate) fn read_value<M: Nvm>(
     memory: &mut M,
     lanes: usize,
@@ -49,11 +71,14 @@ pub(crate) fn read_value<M: Nvm>(
     ensures reads { Reads (reading_fault result)
         (M.state memory.old) (M.state memory.new) (M.images memory.old) (M.images memory.new) }
 {
-    let place = place_of(lanes, value);
-    match read_cell(memory, place) {
-        Ok(number) => Ok(number),
-        Err(CellFault::Unformatted) => Err(StoreFault::Unformatted(place)),
-        Err(CellFault::Memory(fault)) => Err(StoreFault::Memory(fault)),
+    let mut octets = [0; MOST];
+    let image = &mut octets[..store_size(lanes)];
+    match read_all(memory, image) {
+        Ok(()) => match stored_value(image, lanes, value) {
+            Some(number) => Ok(number),
+            None => Err(StoreFault::Unformatted(0)),
+        },
+        Err(fault) => Err(StoreFault::Memory(fault)),
     }
 }
 
@@ -69,62 +94,55 @@ pub(crate) fn raise_value<M: Nvm>(
     ensures { Raises lanes value number (fault_of result)
         (M.state memory.old) (M.state memory.new) (M.images memory.old) (M.images memory.new) }
 {
-    raise_cell(memory, place_of(lanes, value), number)
-}
-
-/// This value of an image, or None where it has none: value 0 is the last reserved number, and value 1 + i the mark of lane i.
-pub fn stored_value(image: &[u8], lanes: usize, value: usize) -> Option<Number48>
-    requires size { length image.now ≡ store_size lanes }
-    requires lanes_fit { lanes ≤ most_lanes }
-    requires in_range { value ≤ lanes }
-
-    ensures value { result ≡ value_of lanes image.now value }
-{
-    let at = place_of(lanes, value);
-    let mut cell = [0; CELL_SIZE];
-    cell.copy_from_slice(&image[at..at + CELL_SIZE]);
-    cell_reading(&cell)
-}
-
-/// Formats a memory: this last reserved number, and a mark for each lane.
-pub fn format_store<M: Nvm>(
-    memory: &mut M,
-    reserved: Number48,
-    marks: &[Number48],
-) -> Result<(), NvmFault>
-    requires size { length (M.state memory.old).octets ≡ store_size (length marks.now) }
-
-    ensures makes { Makes (formatting_writes reserved marks.now) (fault_of result)
-        (M.state memory.old) (M.state memory.new) (M.images memory.old) (M.images memory.new) }
-    ensures formatted { OnOk result ((M.state memory.new).octets ≡ formatted_memory reserved marks.now) }
-    ensures restores { OnOk result (Restores (M.state memory.new).octets reserved marks.now) }
-    ensures unarmed { (M.state memory.old).plan ≡ Some unarmed → (M.state memory.old).powered ≡ true
-        → IsOk result × ((M.state memory.new).plan ≡ Some unarmed) }
-{
-    format_cells(memory, reserved, marks)
-}
-
-// Formats the cells of all values.
-fn format_cells<M: Nvm>(
-    memory: &mut M,
-    reserved: Number48,
-    marks: &[Number48],
-) -> Result<(), NvmFault>
-    requires size { length (M.state memory.old).octets ≡ store_size (length marks.now) }
-
-    ensures makes { Makes (formatting_writes reserved marks.now) (fault_of result)
-        (M.state memory.old) (M.state memory.new) (M.images memory.old) (M.images memory.new) }
-    ensures reserved { OnOk result (reading (M.state memory.new).octets 0 ≡ Some reserved) }
-    ensures marks { OnOk result (EachIndex marks.now
-        (λ k. reading (M.state memory.new).octets (14 * (1 + k)) ≡ Some (slice_index marks.now k))) }
-{
-    format_cell(memory, 0, reserved)?;
-    let mut place = CELL_SIZE;
-    for mark in marks {
-        if let Err(fault) = format_cell(memory, place, *mark) {
-            return Err(fault);
-        }
-        place += CELL_SIZE;
+    let mut octets = [0; MOST];
+    let image = &mut octets[..store_size(lanes)];
+    if let Err(fault) = read_all(memory, image) {
+        return Err(fault);
     }
-    Ok(())
+    write_raise(memory, image, lanes, value, number)
+}
+
+// Raises this value in a memory with these octets: by a record more, or else by a change of banks.
+fn write_raise<M: Nvm>(
+    memory: &mut M,
+    image: &[u8],
+    lanes: usize,
+    value: usize,
+    number: Number48,
+) -> Result<(), NvmFault>
+    requires image { image.now ≡ (M.state memory.old).octets }
+    requires may { MayRaise lanes image.now value number }
+
+    ensures { Makes (raise_writes lanes image.now value number) (fault_of result)
+        (M.state memory.old) (M.state memory.new) (M.images memory.old) (M.images memory.new) }
+{
+    let Some(banks) = banks_of(image, 1 + lanes) else {
+        return Ok(());
+    };
+    if let Some(place) = first_shut(image, 1 + lanes, banks.current) {
+        return write_record(memory, place, value, number);
+    }
+    let mut octets = [0; MOST_BODY];
+    let body = &mut octets[..bank_size(1 + lanes) - 1];
+    next_body(body, image, 1 + lanes, banks.current, value, number);
+    write_gated(memory, banks.other, image[banks.other] == OPEN, body)
+}
+
+// Writes a record over one that is not open.
+fn write_record<M: Nvm>(
+    memory: &mut M,
+    place: usize,
+    value: usize,
+    number: Number48,
+) -> Result<(), NvmFault>
+    requires inside { place + 8 ≤ length (M.state memory.old).octets }
+    requires shut { is_open (M.state memory.old).octets place ≡ false }
+    requires index_fits { value < 256 }
+
+    ensures makes { Makes (gated_writes place false (record_body width value number)) (fault_of result)
+        (M.state memory.old) (M.state memory.new) (M.images memory.old) (M.images memory.new) }
+{
+    let [b0, b1, b2, b3, b4, b5] = number.to_bytes();
+    let index = value as u8;
+    write_gated(memory, place, false, &[index, b0, b1, b2, b3, b4, b5])
 }

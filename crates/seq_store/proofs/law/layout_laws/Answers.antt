@@ -1,6 +1,6 @@
 use Rattle.nvm_model.proofs.Lists.{strike-append}
-use Rattle.seq_store.proofs.Cells.{raises_whole}
-use Rattle.seq_store.proofs.Formatting.{formatted_law}
+use Rattle.seq_store.proofs.RaiseLaws.{raises_whole}
+use Rattle.seq_store.proofs.Formatted.{formatted_law}
 use Rattle.seq_store.proofs.Strikes.{strike_reached}
 use Rattle.seq_store.proofs.law.layout_laws.Goals as goal
 

@@ -1,17 +1,19 @@
-use Rattle.std.proofs.Common.{subst, sym, arith}
-use Rattle.mark_cells.specs.Cell.{ReadsBelow}
+use Rattle.std.proofs.Common.{subst}
+use Rattle.nvm_model.specs.Nvm.{Makes, fault_of}
+use Rattle.nvm_model.proofs.Runs.{makes_after_read}
 use Rattle.seq_store.specs.Layout.{raise_writes}
-use Rattle.seq_store.proofs.Cells.{reads_below}
+use Rattle.seq_store.proofs.Making.{makes_no_raise}
 use Rattle.seq_store.proofs.Raises.{raises}
 use Rattle.seq_store.proofs.layout.raise_value.Goals as goal
 
-pub raise_cell-requires-clause-inside : goal.raise_cell-requires-clause-inside
-raise_cell-requires-clause-inside g c = omega (arith, c.requires.may.ready.size, c.place_of.ensures.inside)
-
-pub raise_cell-requires-clause-below : goal.raise_cell-requires-clause-below
-raise_cell-requires-clause-below g c =
-    subst (λ place. ReadsBelow (g.M.Nvm.state c.args.memory.now).octets place c.args.number) (sym c.place_of.ensures.cell) (reads_below _ _ _ _ c.requires.may)
+pub returns-in-Err : goal.returns-in-Err
+returns-in-Err g c =
+    raises c.args.lanes c.args.value c.args.number c.requires.may
+    (makes_no_raise c.args.lanes c.args.value c.args.number c.requires.may c.in-Err.ensures.reads)
 
 pub returns : goal.returns
-unfolding raise_writes
-returns g c = raises c.args.lanes c.args.value c.args.number c.requires.may (rw c.place_of.ensures.cell at c.raise_cell.ensures.makes)
+returns g c =
+    raises c.args.lanes c.args.value c.args.number c.requires.may
+    (subst (λ o. Makes (raise_writes c.args.lanes o c.args.value c.args.number) (fault_of c.write_raise.result) (g.M.Nvm.state c.args.memory.now)
+    (g.M.Nvm.state c.write_raise.new.memory) (g.M.Nvm.images c.args.memory.now) (g.M.Nvm.images c.write_raise.new.memory))
+    c.in_default.ensures.octets (makes_after_read c.in_default.ensures.reads c.write_raise.ensures))
