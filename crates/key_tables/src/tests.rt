@@ -1,3 +1,7 @@
+ghost use Rattle.std.specs.Prelude.{◌≡◌};
+ghost use Rattle.std.specs.List.{list_any};
+ghost use Rattle.key_tables.specs.Lanes.{is_any};
+
 use crate::{
     BuildFault, Channel, Lane, Level, Role, Row, RowList, Tables, TablesFault, lanes, read_tables,
 };
@@ -299,10 +303,27 @@ const D4: IndAddr = IndAddr(0x1104);
 
 const GROUPS: [GroupAddr; 2] = [GroupAddr(0x0801), GroupAddr(0x0802)];
 
+// Whether a role row is of any sender.
+fn has_any(rows: &[Row]) -> bool
+    ensures { result ≡ list_any is_any rows.now }
+{
+    rows.iter().any(is_any)
+}
+
+fn is_any(row: &Row) -> bool
+    ensures { result ≡ is_any row.now }
+{
+    matches!(row, Row::Role { sender: None, .. })
+}
+
 #[test]
 fn a_device_has_its_lanes_in_their_order(rt: HostRuntime) -> Result<(), Fail> {
     let rows = read_tables(rt.alloc(), FOUR_DEVICES)?;
-    let first = lanes(rt.alloc(), rows.as_slice(), D1, &GROUPS)?;
+    let rows = rows.as_slice();
+    if has_any(rows) {
+        return Err(Fail::from("rows that name every sender"));
+    }
+    let first = lanes(rt.alloc(), rows, D1, &GROUPS)?;
     assert_eq!(rt;
         first.as_slice(),
         [
@@ -317,7 +338,7 @@ fn a_device_has_its_lanes_in_their_order(rt: HostRuntime) -> Result<(), Fail> {
         ]
         .as_slice()
     );
-    let third = lanes(rt.alloc(), rows.as_slice(), D3, &GROUPS[1..])?;
+    let third = lanes(rt.alloc(), rows, D3, &GROUPS[1..])?;
     assert_eq!(rt;
         third.as_slice(),
         [
