@@ -370,6 +370,9 @@ fn without_a_tool_key_it_has_one_for_each_device_that_it_may_send_to(
         role_on(BLIND, Some(SENDER), Role::Observe),
         role_on(LAMP, Some(SENDER), Role::Command),
     ];
+    if has_any(&rows) {
+        return Err(Fail::from("rows that name every sender"));
+    }
     let lanes = lanes(rt.alloc(), &rows, D1, &[GroupAddr(0x0a03)])?;
     assert_eq!(rt;
         lanes.as_slice(),
