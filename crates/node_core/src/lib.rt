@@ -13,8 +13,6 @@ mod fault;
 mod message;
 mod node;
 mod outcome;
-#[cfg(test)]
-mod tests;
 
 pub use config::Config;
 pub use fault::{ConfigFault, SendFault, StartRefused};

@@ -1,4 +1,4 @@
-ghost use Rattle.std.specs.Prelude.{◌≡◌, ◌≤◌, true, length, IfOk};
+ghost use Rattle.std.specs.Prelude.{◌<◌, ◌≡◌, ◌≤◌, true, length, IfOk};
 ghost use Rattle.seq_store.specs.Store.{store_state, lanes_of};
 
 use crate::{DrawFault, SeqStore, StoreFault, format_store, store_size, stored_value};
