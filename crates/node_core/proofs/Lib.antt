@@ -1,4 +1,0 @@
-mod Starting
-mod Keeping
-mod Raising
-mod Acting
