@@ -338,19 +338,22 @@ fn a_device_has_its_lanes_in_their_order(rt: HostRuntime) -> Result<(), Fail> {
         ]
         .as_slice()
     );
+    for device in [D2, D3, D4] {
+        let own = lanes(rt.alloc(), rows, device, &GROUPS)?;
+        assert_eq!(rt;
+            own.as_slice(),
+            [
+                Lane::Run(D1),
+                Lane::Run(D2),
+                Lane::Run(D3),
+                Lane::Run(D4),
+                Lane::Tool(device, D1),
+                Lane::Tool(device, device),
+            ]
+            .as_slice()
+        );
+    }
     let third = lanes(rt.alloc(), rows, D3, &GROUPS[1..])?;
-    assert_eq!(rt;
-        third.as_slice(),
-        [
-            Lane::Run(D1),
-            Lane::Run(D2),
-            Lane::Run(D3),
-            Lane::Run(D4),
-            Lane::Tool(D3, D1),
-            Lane::Tool(D3, D3),
-        ]
-        .as_slice()
-    );
     assert_eq!(rt; third.place(Lane::Tool(D3, D3)), Some(5));
     assert_eq!(rt; third.place(Lane::Tool(D3, D2)), None);
     Ok(())

@@ -32,6 +32,14 @@ const READABLE: &str =
 
 const ONCE: &str = "2900bce011070a030e03f1100000000000050d5858028267\n";
 
+/// A device 1.1.9 with a tool key, which 1.1.7 may manage.
+const DEVICE_TABLES: &str =
+    "group 1/2/3 000102030405060708090a0b0c0d0e0f conf\nrole 1/2/3 1.1.7 command\ntool 1.1.9 000102030405060708090a0b0c0d0e0f\nrole tool:1.1.9 1.1.7 manage\n";
+
+/// From 1.1.7 to 1.1.9 under number 2, a request of a synchronisation, and its answer under number 1.
+const EXCHANGE: &str =
+    "29003c60110711091203f192000000000002fd82b40668d40a240653\n29003c60110911071803f193010203040507447c61778fc4ec5016de976dd7fdfa50\n";
+
 fn audit_words(alloc: Global) -> Result<Vec<String>, NoMemory>
     ensures { IfOk result (λ words. map string_bytes words.items ≡ codes "audit" ∷ codes "tables" ∷ codes "frames" ∷ []) }
 {
@@ -90,6 +98,12 @@ fn each_record_is_judged_by_those_before_it(rt: HostRuntime) -> Result<(), Fail>
             TWICE,
             "1 1.1.7 > 1/2/3 role needs command has observe !\n2 1.1.7 > 1/2/3 stale kept 5 got 5 !\ntotal 2 accepted 0 sync 0 alarms 2\n",
             Status::Alarm,
+        ),
+        (
+            DEVICE_TABLES,
+            EXCHANGE,
+            "1 1.1.7 > 1.1.9 sync-ask number 2 challenge 010203040506\n2 1.1.9 > 1.1.7 sync-answer number 1 kept 500\ntotal 2 accepted 0 sync 2 alarms 0\n",
+            Status::Done,
         ),
     ];
     for (tables, frames, report, ended) in rows {
