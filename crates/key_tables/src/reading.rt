@@ -165,6 +165,7 @@ fn take_line(list: &mut RowList, number: u64, line: &[u8]) -> Result<(), TablesF
     ensures taken { OnOk result (list.new ≡ list.old ++ option_to_list (row_said (line_says line.now))) }
     ensures right { IsOk result → refusal number list.old (line_says line.now) ≡ None }
     ensures fault { IfErr result (λ fault. IsRefusal fault (refusal number list.old (line_says line.now))) }
+    ensures memory { IfErr result (λ fault. fault ≡ TablesFault.NoMemory → refusal number list.old (line_says line.now) ≡ None) }
 {
     match read_line(line) {
         Ok(Some(row)) => list.add(row).map_err(|fault| at_line(number, fault)),

@@ -73,6 +73,7 @@ impl RowList {
     pub(crate) fn add(&mut self, row: Row) -> Result<(), BuildFault>
         ensures added { OnOk result ((self.new ≡ self.old ++ row ∷ []) × (row_fault self.old row ≡ None)) }
         ensures fault { IfErr result (λ fault. IsFault fault (row_fault self.old row)) }
+        ensures memory { IfErr result (λ fault. fault ≡ BuildFault.NoMemory → row_fault self.old row ≡ None) }
         ensures unchanged { OnErr result (self.new ≡ self.old) }
     {
         if self.is_repeated(&row) {

@@ -188,6 +188,16 @@ fn there_are_as_many_roles_as_may_be_and_no_more(rt: HostRuntime) -> Result<(), 
 fn no_key_is_shown_for_debugging(rt: HostRuntime) -> Result<(), Fail> {
     let shown = format!(in rt.alloc(); "{:?}", tool_key(IndAddr(7), KEY))?;
     assert_eq!(rt; shown.as_str(), "Tool { device: IndAddr(7), .. }");
+    let group = Row::Group {
+        address: GroupAddr(9),
+        key: KEY,
+        level: Level::Conf,
+    };
+    let shown = format!(in rt.alloc(); "{:?}", group)?;
+    assert_eq!(rt;
+        shown.as_str(),
+        "Group { address: GroupAddr(9), level: Conf, .. }"
+    );
     Ok(())
 }
 

@@ -2,7 +2,9 @@ ghost use Rattle.std.specs.Prelude.{◌≡◌, ◌∷◌, [], ◌≤◌, map, co
 ghost use Rattle.std.specs.String.{string_bytes};
 
 use crate::{Status, run};
-use knx_base::{HostFiles, HostSink, MemFiles, MemSink, NoMemory};
+use aes_modes::Key128;
+use knx_base::{HostFiles, HostSink, IndAddr, MemFiles, MemSink, NoMemory, Number48};
+use secure_apdu::{FrameBuf, SendHead, seal_frame};
 use std::alloc::Global;
 use std::fs;
 use std::test::Fail;
@@ -12,6 +14,12 @@ const TABLES: &str =
 
 const AUTH_TABLES: &str =
     "group 1/2/3 000102030405060708090a0b0c0d0e0f auth\nrole 1/2/3 1.1.7 command";
+
+/// Each sender may command.
+const ANY_TABLES: &str =
+    "group 1/2/3 000102030405060708090a0b0c0d0e0f conf\nrole 1/2/3 any command\n";
+
+const KEY: [u8; 16] = [0, 1, 2, 3, 4, 5, 6, 7, 8, 9, 10, 11, 12, 13, 14, 15];
 
 const OBSERVER_TABLES: &str =
     "group 1/2/3 000102030405060708090a0b0c0d0e0f conf\nrole 1/2/3 1.1.7 observe\n";
@@ -246,23 +254,41 @@ fn an_audit_of_the_host_s_files(rt: HostRuntime) -> Result<(), Fail> {
     Ok(())
 }
 
-// The telegram of 1.1.7 under the addresses of 300 senders, 1.1.7 among them.
+// Telegrams of 300 senders to the group 1/2/3, each sealed for its sender under number 5: twice the first, and each other once.
 fn senders(alloc: Global) -> Result<String, Fail> {
+    let key = Key128::new(KEY);
     let mut frames = String::new(alloc);
-    for sender in 0x1100..0x122cu32 {
-        write!(
-            frames,
-            "2900bce0{sender:04x}0a030e03f1100000000000050d5858028267\n"
-        )?;
+    add_telegram(&key, 0x1100, &mut frames)?;
+    for sender in 0x1100..0x122c {
+        add_telegram(&key, sender, &mut frames)?;
     }
     Ok(frames)
+}
+
+fn add_telegram(key: &Key128, sender: u16, frames: &mut String) -> Result<(), Fail> {
+    let number = Number48::new(5).ok_or("a number of 48 bits")?;
+    let head = SendHead {
+        source: IndAddr(sender),
+        destination: 0x0a03,
+        group: true,
+        number,
+        shown: number,
+        field: 0x10,
+    };
+    let mut frame = FrameBuf::new();
+    seal_frame(key, &head, &[0x00, 0x81], &mut frame);
+    for octet in frame.bytes() {
+        write!(*frames, "{octet:02x}")?;
+    }
+    writeln!(*frames)?;
+    Ok(())
 }
 
 #[test]
 fn each_sender_has_a_mark_of_its_own(rt: HostRuntime) -> Result<(), Fail> {
     let frames = senders(rt.alloc())?;
-    let (out, status) = audited(rt.alloc(), TABLES, frames.as_str(), 1_000_000)?;
-    let total = b"\ntotal 300 accepted 1 sync 0 alarms 299\n";
+    let (out, status) = audited(rt.alloc(), ANY_TABLES, frames.as_str(), 1_000_000)?;
+    let total = b"\ntotal 301 accepted 300 sync 0 alarms 1\n";
     assert!(rt; out.bytes().ends_with(total));
     assert_eq!(rt; status, Status::Alarm);
     Ok(())
