@@ -1,0 +1,4 @@
+mod Starting
+mod Keeping
+mod Raising
+mod Acting
