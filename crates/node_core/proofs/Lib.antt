@@ -1,4 +1,6 @@
 mod Starting
 mod Keeping
+mod Entitled
+mod Causes
 mod Raising
 mod Acting

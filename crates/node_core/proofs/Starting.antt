@@ -5,6 +5,9 @@ use Rattle.std.specs.Option.{is_some}
 use Rattle.std.specs.List.{list_any, position_or_len}
 use Rattle.std.proofs.Common.{◌≡◌, ℕ, ◌+◌, ◌||◌, nat_lt, List, [], ◌∷◌, length, Bool, true, false, cond, Option, Some, None, refl, sym, ap, ◌∙◌, subst, arith}
 use Rattle.std.proofs.lemmas.Bool.Decides.{nat_tests}
+use Rattle.std.proofs.lemmas.List.{length-map}
+use Rattle.group_objects.specs.declared.row.ObjectRow.{ObjectRow}
+use Rattle.group_objects.specs.Objects.{ObjectsState, at_start}
 use Rattle.seq_store.specs.Laws.{IsUnformattedAt}
 use Rattle.seq_store.specs.Refusal.{has_read}
 use Rattle.seq_store.specs.declared.fault.StoreFault.{StoreFault}
@@ -39,3 +42,9 @@ pub unformatted_as : {lanes lanes' : ℕ} {octets : List ℕ} {a b : Option Stor
 unformatted_as {lanes = lanes} {octets = octets} {b = b} same_lanes same before =
     subst (λ n. (place : ℕ) → (b ≡ Some (Unformatted place)) ↔ (IsUnformattedAt n octets place × (has_read b ≡ true))) same_lanes
     (subst (λ r. (place : ℕ) → (r ≡ Some (Unformatted place)) ↔ (IsUnformattedAt lanes octets place × (has_read r ≡ true))) same before)
+
+-- ---- objects at their start
+
+pub values_at_start : (held : ObjectsState) (rows : List ObjectRow) → held ≡ at_start rows → length held.values ≡ length held.rows
+values_at_start held rows is =
+    ap (λ (o : ObjectsState). length o.values) is ∙ length-map rows (λ (row : ObjectRow). row.value) ∙ sym (ap (λ (o : ObjectsState). length o.rows) is)

@@ -21,4 +21,5 @@ pub struct Config {
     pub(crate) lanes: LaneList,
     ghost no_any: { list_any is_any tables ≡ false },
     ghost lanes_fit: { length lanes ≤ most_lanes },
+    ghost values: { length objects.values ≡ length objects.rows },
 }

@@ -1,3 +1,6 @@
+ghost use Rattle.std.specs.Prelude.{◌≡◌, true, IsOk};
+ghost use Rattle.node_core.specs.Node.{node_state};
+
 use crate::{Act, Config, ConfigFault, Node, Outcome, SendFault};
 use cemi_frames::NotFrame;
 use group_objects::{Flags, ObjectRow, ObjectsFault, SendService, SetFault, Value};
@@ -87,10 +90,10 @@ const TRANSMITS: Flags = Flags {
     transmits: true,
 };
 
-const READS_WRITES: Flags = Flags {
+const TAKES_ALL: Flags = Flags {
     reads: true,
     writes: true,
-    updates: false,
+    updates: true,
     transmits: false,
 };
 
@@ -119,7 +122,7 @@ fn config(alloc: Global, address: IndAddr, objects: &[ObjectRow]) -> Result<Conf
 }
 
 fn lamp(alloc: Global) -> Result<Config, Fail> {
-    config(alloc, LAMP, &[object(GROUP, READS_WRITES, 0)?])
+    config(alloc, LAMP, &[object(GROUP, TAKES_ALL, 0)?])
 }
 
 fn push(alloc: Global) -> Result<Config, Fail> {
@@ -157,93 +160,110 @@ fn started<M: Nvm + Drop>(
 }
 
 fn receive<M: Nvm>(node: &mut Node<M>, octets: &[u8], out: &mut FrameBuf) -> Result<Outcome, Fail> {
-    if !node.is_running() {
-        return Err(Fail::from("not running"));
-    }
+    running(node)?;
     Ok(node.receive(octets, out))
 }
 
-// What the lamp does with what the button sends, frame by frame, and what it answers.
+// What a node answers to a frame, its reply, and its next number, its first mark and its first value then.
+#[derive(Clone, Copy, Debug, PartialEq, Eq)]
+struct Seen {
+    outcome: Outcome,
+    next: u64,
+    mark: u64,
+    value: Option<Value>,
+}
+
+fn see<M: Nvm>(node: &mut Node<M>, octets: &[u8], out: &mut FrameBuf) -> Result<Seen, Fail> {
+    let outcome = receive(node, octets, out)?;
+    if node.config().lanes().is_empty() {
+        return Err(Fail::from("no lane"));
+    }
+    Ok(Seen {
+        outcome,
+        next: node.next(),
+        mark: node.mark(0).get(),
+        value: node.value(0),
+    })
+}
+
+fn shows(outcome: Outcome, next: u64, mark: u64, value: u8) -> Result<Seen, Fail> {
+    Ok(Seen {
+        outcome,
+        next,
+        mark,
+        value: Some(bits(value)?),
+    })
+}
+
+// What the lamp does with what the button sends, frame by frame: what it answers, and its next number, its mark of the
+// button and its value afterwards.
 #[test]
 fn each_outcome_once(rt: HostRuntime) -> Result<(), Fail> {
     let alloc = rt.alloc();
-    let run = Lane::Run(PUSH);
+    let write = Act::Write {
+        object: 0,
+        value: bits(1)?,
+    };
+    let response = Act::Response {
+        object: 0,
+        value: bits(1)?,
+    };
     let rows = [
+        ("29", shows(Outcome::Refused(SHORT), 1, 0, 0)?, ""),
+        (OTHER_GROUP, shows(Outcome::Ignored, 1, 0, 0)?, ""),
+        (LAMP_ANSWER_7, shows(Outcome::Ignored, 1, 0, 0)?, ""),
+        (WRITE_1, shows(acted(1, RUN, write)?, 1, 1, 1)?, ""),
+        (WRITE_1, shows(stale(1)?, 1, 1, 1)?, ""),
         (
-            "29",
-            Outcome::Refused(Verdict::NotFrame(NotFrame::Short(1))),
+            READABLE_2,
+            shows(Outcome::Refused(Verdict::Level), 1, 2, 1)?,
             "",
         ),
-        (OTHER_GROUP, Outcome::Ignored, ""),
-        (
-            WRITE_1,
-            acted(
-                1,
-                run,
-                Act::Write {
-                    object: 0,
-                    value: bits(1)?,
-                },
-            )?,
-            "",
-        ),
-        (WRITE_1, stale(1, 1)?, ""),
-        (READABLE_2, Outcome::Refused(Verdict::Level), ""),
-        (READABLE_2, stale(2, 2)?, ""),
+        (READABLE_2, shows(stale(2)?, 1, 2, 1)?, ""),
         (
             READ_3,
-            acted(
-                3,
-                run,
-                Act::Read {
-                    object: 0,
-                    reply: Some(number(1)?),
-                },
-            )?,
+            shows(acted(3, RUN, read(1)?)?, 2, 3, 1)?,
             LAMP_RESPONSE_1,
         ),
-        (
-            RESPONSE_4,
-            Outcome::Refused(Verdict::Object(BadObject::Flag)),
-            "",
-        ),
-        (
-            REQUEST_5,
-            Outcome::Answered {
-                challenge: CHALLENGE,
-                reply: Some(number(2)?),
-            },
-            LAMP_ANSWER_2,
-        ),
-        (
-            TOOL_6,
-            acted(
-                6,
-                Lane::Tool(LAMP, PUSH),
-                Act::Tool {
-                    service: Service::DeviceDescriptorRead,
-                },
-            )?,
-            "",
-        ),
-        (LAMP_ANSWER_7, Outcome::Ignored, ""),
+        (RESPONSE_4, shows(acted(4, RUN, response)?, 2, 4, 1)?, ""),
+        (REQUEST_5, shows(answered(2)?, 3, 4, 1)?, LAMP_ANSWER_2),
+        (TOOL_6, shows(acted(6, TOOL, DESCRIPTOR)?, 3, 4, 1)?, ""),
     ];
     let mut node = over_sim(alloc, lamp(alloc)?)?;
-    for (frame, outcome, reply) in rows {
+    for (frame, want, reply) in rows {
         let mut out = FrameBuf::new();
         let octets = octets(alloc, frame)?;
-        assert_eq!(rt; receive(&mut node, &octets, &mut out)?, outcome, "{frame}");
+        assert_eq!(rt; see(&mut node, &octets, &mut out)?, want, "{frame}");
         assert_eq!(rt; hex::encode(alloc, out.bytes())?.as_str(), reply, "{frame}");
     }
-    assert_eq!(rt; node.value(0), Some(bits(1)?));
     assert_eq!(rt; node.value(1), None);
-    assert_eq!(rt; node.next(), 3);
-    assert_eq!(rt;
-        node.config().lanes(),
-        [run, Lane::Tool(LAMP, PUSH), Lane::Tool(LAMP, LAMP)].as_slice()
-    );
-    assert_eq!(rt; marks(alloc, &node)?.as_slice(), [4, 6, 0].as_slice());
+    let lanes = [RUN, TOOL, Lane::Tool(LAMP, LAMP)];
+    assert_eq!(rt; node.config().lanes(), lanes.as_slice());
     Ok(())
+}
+
+const RUN: Lane = Lane::Run(PUSH);
+
+const TOOL: Lane = Lane::Tool(LAMP, PUSH);
+
+const SHORT: Verdict = Verdict::NotFrame(NotFrame::Short(1));
+
+const DESCRIPTOR: Act = Act::Tool {
+    service: Service::DeviceDescriptorRead,
+};
+
+fn read(reply: u64) -> Result<Act, Fail> {
+    Ok(Act::Read {
+        object: 0,
+        reply: Some(number(reply)?),
+    })
+}
+
+fn answered(reply: u64) -> Result<Outcome, Fail> {
+    Ok(Outcome::Answered {
+        challenge: CHALLENGE,
+        reply: Some(number(reply)?),
+    })
 }
 
 fn acted(kept: u64, lane: Lane, act: Act) -> Result<Outcome, Fail> {
@@ -254,10 +274,11 @@ fn acted(kept: u64, lane: Lane, act: Act) -> Result<Outcome, Fail> {
     })
 }
 
-fn stale(kept: u64, got: u64) -> Result<Outcome, Fail> {
+// The number of the mark once more.
+fn stale(kept: u64) -> Result<Outcome, Fail> {
     Ok(Outcome::Refused(Verdict::Stale {
         kept: number(kept)?,
-        got: number(got)?,
+        got: number(kept)?,
     }))
 }
 
@@ -266,55 +287,111 @@ fn over_sim(alloc: Global, config: Config) -> Result<Node<SimNvm>, Fail> {
     Ok(node_over(alloc, config, SimNvm::new(alloc, size)?)?.ok_or("a node")?)
 }
 
-fn marks<M: Nvm>(alloc: Global, node: &Node<M>) -> Result<Vec<u64>, Fail> {
-    let mut marks = Vec::new(alloc);
-    for lane in 0..node.config().lanes().len() {
-        marks.push(node.mark(lane).get())?;
-    }
-    Ok(marks)
+// A memory that tells no plan, and of which no call fails.
+fn over_other(alloc: Global, config: Config) -> Result<Node<FailingNvm>, Fail> {
+    let size = store_size(config.lanes().len());
+    let memory = FailingNvm::new(alloc, size, 0, 0)?;
+    Ok(node_over(alloc, config, memory)?.ok_or("a node")?)
 }
 
-// The button asks the lamp, takes its answer once, and goes on above the number that the lamp kept.
+// The button asks the lamp, takes its answer once, and goes on above the number that the lamp kept. A read of its object,
+// which only transmits, is refused and kept.
 #[test]
 fn a_button_catches_up(rt: HostRuntime) -> Result<(), Fail> {
     let alloc = rt.alloc();
-    let mut node = over_sim(alloc, push(alloc)?)?;
+    let over_sim = catch_up(alloc, &mut over_sim(alloc, push(alloc)?)?)?;
+    let over_other = catch_up(alloc, &mut over_other(alloc, push(alloc)?)?)?;
+    let outcomes = [
+        Outcome::Refused(Verdict::NoPending),
+        Outcome::Synced {
+            number: number(7)?,
+            kept: number(500)?,
+            next: 501,
+        },
+        Outcome::Refused(Verdict::NoPending),
+        Outcome::Refused(Verdict::Object(BadObject::Flag)),
+        stale(3)?,
+    ];
+    let frames = [PUSH_REQUEST_1, PUSH_TOOL_501, PUSH_WRITE_502];
+    for caught in [&over_sim, &over_other] {
+        assert_eq!(rt; caught.outcomes, outcomes);
+        assert_eq!(rt; caught.numbers, [1, 501, 502]);
+        for (sent, frame) in caught.frames.iter().zip(frames) {
+            assert_eq!(rt; hex::encode(alloc, sent.bytes())?.as_str(), frame);
+        }
+    }
+    Ok(())
+}
+
+#[derive(Drop)]
+struct Caught {
+    outcomes: [Outcome; 5],
+    numbers: [u64; 3],
+    frames: [FrameBuf; 3],
+}
+
+fn catch_up<M: Nvm>(alloc: Global, node: &mut Node<M>) -> Result<Caught, Fail> {
+    let mut request = FrameBuf::new();
+    let mut tool = FrameBuf::new();
+    let mut write = FrameBuf::new();
     let mut out = FrameBuf::new();
     let answer = octets(alloc, LAMP_ANSWER_7)?;
-    assert_eq!(rt;
-        receive(&mut node, &answer, &mut out)?,
-        Outcome::Refused(Verdict::NoPending)
-    );
-    if !node.is_running() {
-        return Err(Fail::from("not running"));
+    let read = octets(alloc, READ_3)?;
+    let unasked = receive(node, &answer, &mut out)?;
+    let first = ask(node, &mut request)?;
+    let taken = receive(node, &answer, &mut out)?;
+    let again = receive(node, &answer, &mut out)?;
+    let second = send_tool(node, &mut tool)?;
+    let third = send(node, 0, &mut write)?;
+    let refused = receive(node, &read, &mut out)?;
+    let stale = receive(node, &read, &mut out)?;
+    Ok(Caught {
+        outcomes: [unasked, taken, again, refused, stale],
+        numbers: [drawn(first)?, drawn(second)?, drawn(third)?],
+        frames: [request, tool, write],
+    })
+}
+
+fn drawn(sent: Result<Number48, SendFault>) -> Result<u64, Fail> {
+    match sent {
+        Ok(number) => Ok(number.get()),
+        Err(_) => Err(Fail::from("not sent")),
     }
-    assert_eq!(rt; node.ask(LAMP, CHALLENGE, &mut out), Ok(number(1)?));
-    assert_eq!(rt; hex::encode(alloc, out.bytes())?.as_str(), PUSH_REQUEST_1);
-    let synced = Outcome::Synced {
-        number: number(7)?,
-        kept: number(500)?,
-        next: 501,
-    };
-    for outcome in [synced, Outcome::Refused(Verdict::NoPending)] {
-        assert_eq!(rt; receive(&mut node, &answer, &mut out)?, outcome);
+}
+
+fn running<M: Nvm>(node: &Node<M>) -> Result<(), Fail>
+    ensures { IsOk result → (node_state node.now).running ≡ true }
+{
+    if node.is_running() {
+        Ok(())
+    } else {
+        Err(Fail::from("not running"))
     }
-    if !node.is_running() {
-        return Err(Fail::from("not running"));
-    }
-    assert_eq!(rt;
-        node.send_tool(LAMP, &[0x03, 0x00], &mut out),
-        Ok(number(501)?)
-    );
-    assert_eq!(rt; hex::encode(alloc, out.bytes())?.as_str(), PUSH_TOOL_501);
-    if !node.is_running() {
-        return Err(Fail::from("not running"));
-    }
-    assert_eq!(rt;
-        node.send(0, SendService::Write, &mut out),
-        Ok(number(502)?)
-    );
-    assert_eq!(rt; hex::encode(alloc, out.bytes())?.as_str(), PUSH_WRITE_502);
-    Ok(())
+}
+
+fn ask<M: Nvm>(
+    node: &mut Node<M>,
+    out: &mut FrameBuf,
+) -> Result<Result<Number48, SendFault>, Fail> {
+    running(node)?;
+    Ok(node.ask(LAMP, CHALLENGE, out))
+}
+
+fn send_tool<M: Nvm>(
+    node: &mut Node<M>,
+    out: &mut FrameBuf,
+) -> Result<Result<Number48, SendFault>, Fail> {
+    running(node)?;
+    Ok(node.send_tool(LAMP, &[0x03, 0x00], out))
+}
+
+fn send<M: Nvm>(
+    node: &mut Node<M>,
+    object: usize,
+    out: &mut FrameBuf,
+) -> Result<Result<Number48, SendFault>, Fail> {
+    running(node)?;
+    Ok(node.send(object, SendService::Write, out))
 }
 
 // Over a memory whose calls fail one after another: either the node is not made, or it acts and runs on, or it is
@@ -324,28 +401,28 @@ fn a_stop_comes_before_the_act(rt: HostRuntime) -> Result<(), Fail> {
     let alloc = rt.alloc();
     let write = octets(alloc, WRITE_1)?;
     let size = store_size(lamp(alloc)?.lanes().len());
-    let mut stops = 0;
+    let act = Act::Write {
+        object: 0,
+        value: bits(1)?,
+    };
+    let did = shows(acted(1, RUN, act)?, 1, 1, 1)?;
+    let stopped = shows(Outcome::Stopped(NvmFault::Failed), 1, 0, 0)?;
+    let mut was_stopped = false;
     for call in 1..=30 {
         let memory = FailingNvm::new(alloc, size, call, 0xa5)?;
         let Some(mut node) = node_over(alloc, lamp(alloc)?, memory)? else {
             continue;
         };
-        let mut out = FrameBuf::new();
-        let outcome = receive(&mut node, &write, &mut out)?;
-        if outcome == Outcome::Stopped(NvmFault::Failed) {
-            stops += 1;
-            assert!(rt; !node.is_running());
-            assert_eq!(rt; node.value(0), Some(bits(0)?));
-        } else {
-            assert!(rt; node.is_running());
-            assert_eq!(rt; node.value(0), Some(bits(1)?));
-        }
+        let told = see(&mut node, &write, &mut FrameBuf::new())?;
+        let want = if node.is_running() { did } else { stopped };
+        was_stopped = was_stopped || !node.is_running();
+        assert_eq!(rt; told, want, "call {call}");
     }
-    assert!(rt; stops > 0);
+    assert!(rt; was_stopped);
     Ok(())
 }
 
-// A telegram whose mark was not raised before power was lost is acted on afterwards.
+// A telegram whose mark was not raised before power was lost is acted on afterwards, unless the memory fails again.
 #[test]
 fn a_cut_before_the_mark_leaves_the_telegram(rt: HostRuntime) -> Result<(), Fail> {
     let alloc = rt.alloc();
@@ -354,52 +431,57 @@ fn a_cut_before_the_mark_leaves_the_telegram(rt: HostRuntime) -> Result<(), Fail
     let mut node = over_sim(alloc, lamp(alloc)?)?;
     node.arm_fail(2, 0xa5);
     node.arm_cut(1, 0xa5);
-    assert_eq!(rt;
-        receive(&mut node, &write, &mut out)?,
-        Outcome::Stopped(NvmFault::Cut)
-    );
+    let faults = [NvmFault::Cut, NvmFault::Failed];
+    for fault in faults {
+        assert_eq!(rt; receive(&mut node, &write, &mut out)?, Outcome::Stopped(fault));
+        node = again(alloc, node)?;
+    }
+    assert_eq!(rt; node.value(0), Some(bits(0)?));
+    receive(&mut node, &write, &mut out)?;
+    assert_eq!(rt; node.value(0), Some(bits(1)?));
+    Ok(())
+}
+
+// The node after power was off and on again.
+fn again(alloc: Global, node: Node<SimNvm>) -> Result<Node<SimNvm>, Fail> {
     let (config, mut memory) = node.cut();
     memory.power_on();
-    let mut node = started(alloc, config, memory)?.ok_or("a node")?;
-    assert_eq!(rt;
-        receive(&mut node, &write, &mut out)?,
-        Outcome::Stopped(NvmFault::Failed)
-    );
-    Ok(())
+    Ok(started(alloc, config, memory)?.ok_or("a node")?)
 }
 
 #[test]
 fn what_is_not_sent(rt: HostRuntime) -> Result<(), Fail> {
     let alloc = rt.alloc();
     let other = object(GroupAddr(0x0a04), TRANSMITS, 0)?;
-    let objects = [object(GROUP, READS_WRITES, 0)?, other];
+    let objects = [object(GROUP, TAKES_ALL, 0)?, other];
     let mut node = over_sim(alloc, config(alloc, IndAddr(0x110a), &objects)?)?;
     let mut out = FrameBuf::new();
-    let rows = [
+    let faults = [
         (2, SendFault::NoObject),
         (0, SendFault::Flag),
         (1, SendFault::NoKey),
     ];
-    for (object, fault) in rows {
-        if !node.is_running() {
-            return Err(Fail::from("not running"));
-        }
-        assert_eq!(rt; node.send(object, SendService::Write, &mut out), Err(fault));
+    for (object, fault) in faults {
+        assert_eq!(rt; send(&mut node, object, &mut out)?, Err(fault));
     }
+    assert_eq!(rt; out.bytes().len(), 0);
+    Ok(())
+}
+
+#[test]
+fn a_value_is_set_in_its_form(rt: HostRuntime) -> Result<(), Fail> {
+    let mut node = over_sim(rt.alloc(), lamp(rt.alloc())?)?;
     let octet = Value::octets(&[1]).ok_or("an octet")?;
     let values = [
-        (2, bits(1)?, Err(SetFault::NoObject)),
+        (1, bits(1)?, Err(SetFault::NoObject)),
         (0, bits(1)?, Ok(())),
         (0, octet, Err(SetFault::Size)),
     ];
     for (object, value, answer) in values {
-        if !node.is_running() {
-            return Err(Fail::from("not running"));
-        }
+        running(&node)?;
         assert_eq!(rt; node.set(object, value), answer);
     }
     assert_eq!(rt; node.value(0), Some(bits(1)?));
-    assert_eq!(rt; out.bytes().len(), 0);
     Ok(())
 }
 
@@ -424,7 +506,7 @@ fn a_memory_of_zeros_is_not_started(rt: HostRuntime) -> Result<(), Fail> {
 #[test]
 fn what_is_no_configuration(rt: HostRuntime) -> Result<(), Fail> {
     let alloc = rt.alloc();
-    let lamp = object(GROUP, READS_WRITES, 0)?;
+    let lamp = object(GROUP, TAKES_ALL, 0)?;
     let any = command(None);
     let mut many = Vec::new(alloc);
     for sender in 0x1200..0x1241 {

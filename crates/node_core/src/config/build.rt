@@ -20,7 +20,7 @@ impl Config {
     /// first values.
     ///
     /// A refusal tells the first fault in the order of [`ConfigFault`].
-    #[tactic(auto, using(crate::proofs::Starting::none_passes, crate::proofs::Keeping::keeps_on_lanes))]
+    #[tactic(auto, using(crate::proofs::Starting::none_passes, crate::proofs::Starting::values_at_start, crate::proofs::Keeping::keeps_on_lanes))]
     pub fn build(
         alloc: Global,
         address: IndAddr,

@@ -5,7 +5,7 @@ ghost use Rattle.cemi_frames.specs.Frames.{telegram};
 ghost use Rattle.judge_rules.specs.Checks.{lane_in, verdict_of};
 ghost use Rattle.judge_rules.specs.Parts.{source_of};
 ghost use Rattle.sync_service.specs.Open.{asked_of};
-ghost use Rattle.node_core.specs.Laws.{LeavesRaised};
+ghost use Rattle.node_core.specs.Laws.{LeavesRaised, HasItsCause};
 ghost use Rattle.node_core.specs.Node.{node_state, receive_stop, Does};
 ghost use Rattle.node_core.specs.Receiving.{receive_transition, addressed_transition, telegram_transition, lane_transition, addressee, kept_raises};
 ghost use Rattle.node_core.specs.Standing.{raised, mark_at};
@@ -37,6 +37,21 @@ impl<M: Nvm> Node<M> {
             (M.state old.memory) (M.state new.memory) (M.images old.memory) (M.images new.memory) }
         ensures numbers { let old = node_state self.old in
             LeavesRaised (receive_transition old.config old.standing octets.now) old.standing }
+        ensures cause { let old = node_state self.old in
+            HasItsCause old.config old.standing.next octets.now result }
+    {
+        self.receive_octets(octets, out)
+    }
+
+    fn receive_octets(&mut self, octets: &[u8], out: &mut FrameBuf) -> Outcome
+        requires running { (node_state self.old).running ≡ true }
+        ensures does { let old = node_state self.old in
+            Does (receive_transition old.config old.standing octets.now) (receive_stop result) result
+            old (node_state self.new) out.old out.new }
+        ensures runs { let old = node_state self.old in let new = node_state self.new in
+            Runs old.standing.numbers (receive_transition old.config old.standing octets.now).raises
+            (receive_stop result)
+            (M.state old.memory) (M.state new.memory) (M.images old.memory) (M.images new.memory) }
     {
         match read_frame(octets) {
             Ok(frame) => self.receive_frame(&frame, out),

@@ -1,4 +1,5 @@
-ghost use Rattle.std.specs.Prelude.{◌≡◌, ◌≢◌, ◌<◌, ◌≤◌, ◌^◌, true, length, slice_index, slice_get, IsTrue};
+ghost use Rattle.std.specs.Prelude.{◌≡◌, ◌↔◌, ◌<◌, ◌≤◌, ◌^◌, true, length, slice_index, slice_get, IsNone, IsTrue};
+ghost use Rattle.group_objects.specs.Objects.{KeepsForms};
 ghost use Rattle.seq_store.specs.Layout.{store_size};
 ghost use Rattle.seq_store.specs.Runs.{RestoresNumbers};
 ghost use Rattle.node_core.specs.Node.{config_state, node_state};
@@ -32,6 +33,8 @@ impl<M: Nvm> Node<M> {
     pub fn mark(&self, lane: usize) -> Number48
         requires in_range { lane < length (node_state self.now).config.lanes }
         ensures mark { result ≡ slice_index (node_state self.now).standing.numbers.marks lane }
+        ensures each_lane { let node = node_state self.now in
+            length node.standing.numbers.marks ≡ length node.config.lanes }
     {
         self.store.mark(lane)
     }
@@ -39,6 +42,9 @@ impl<M: Nvm> Node<M> {
     /// The value of an object, or None where there is no such object.
     pub fn value(&self, object: usize) -> Option<Value>
         ensures value { result ≡ slice_get (node_state self.now).standing.values object }
+        ensures none { IsNone result ↔ (length (node_state self.now).config.objects ≤ object) }
+        ensures forms { let node = node_state self.now in
+            KeepsForms (record { rows = node.config.objects; values = node.standing.values }) }
     {
         self.config.objects.value(object)
     }
