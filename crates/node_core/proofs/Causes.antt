@@ -1,6 +1,6 @@
 -- What an outcome tells has its cause: by the cases of a transition.
-use Rattle.std.proofs.Common.{◌≡◌, ℕ, ◌<◌, ◌≤◌, ◌&&◌, ◌||◌, List, [], ◌∷◌, length, Bool, true, false, Option, Some, None, Result, Ok, Err, refl, sym, ap, subst, ◌∙◌, get_or, arith}
-use Rattle.std.specs.Prelude.{◌↔◌, ◌^◌, ◌==◌, slice_get, slice_index, position, if◌then◌else◌, IfSome}
+use Rattle.std.proofs.Common.{◌≡◌, ℕ, ◌<◌, List, [], ◌∷◌, length, Bool, true, false, Option, Some, None, Result, Ok, Err, refl, sym, ap, subst, ◌∙◌, get_or, arith}
+use Rattle.std.specs.Prelude.{◌↔◌, ◌^◌, ◌==◌, slice_get, position, if◌then◌else◌, IfSome}
 use Rattle.std.specs.Option.{is_some, option_map, option_or}
 use Rattle.std.proofs.lemmas.Bool.{eqb-true, eq-eqb, false≢true}
 use Rattle.std.proofs.lemmas.Option.{none-some, slice_get-get_or, slice_get_within}
@@ -21,7 +21,7 @@ use Rattle.key_tables.specs.declared.types.Row.{Row}
 use Rattle.key_tables.specs.Rows.{key_of, where_keyed, keyed, channel_of}
 use Rattle.judge_rules.specs.declared.verdict.Verdict.{Verdict}
 use Rattle.judge_rules.specs.declared.verdict.Verdict.TheVariants as verdict
-use Rattle.judge_rules.specs.Parts.{is_group, has_tool_access, source_of, sync_service, number_in, channel_in}
+use Rattle.judge_rules.specs.Parts.{is_group, has_tool_access, source_of, channel_in}
 use Rattle.judge_rules.specs.Checks.{lane_in, verdict_of, kept_by, opened_by, is_good, is_ask, IsEntitled}
 use Rattle.group_objects.specs.declared.row.ObjectRow.{ObjectRow}
 use Rattle.group_objects.specs.declared.row.Effect.{Effect}
@@ -32,19 +32,16 @@ use Rattle.group_objects.specs.Apdus.{service_apdu}
 use Rattle.group_objects.specs.Effects.{accepted}
 use Rattle.group_objects.specs.Objects.{is_of, place_of}
 use Rattle.secure_apdu.specs.SealedFrame.{sealed_frame}
-use Rattle.seq_store.specs.Runs.{Raise}
 use Rattle.sync_service.specs.Frames.{answer_frame}
 use Rattle.sync_service.specs.Open.{asked_of}
-use Rattle.node_core.specs.declared.fault.SendFault.{SendFault}
 use Rattle.node_core.specs.declared.fault.SendFault.TheVariants as fault
-use Rattle.node_core.specs.declared.outcome.Act.TheVariants as act
 use Rattle.node_core.specs.declared.outcome.Addressee.{Addressee}
 use Rattle.node_core.specs.declared.outcome.Addressee.TheVariants.{Device, Object}
 use Rattle.node_core.specs.declared.outcome.Outcome.{Outcome}
 use Rattle.node_core.specs.declared.outcome.Outcome.TheVariants as outcome
 use Rattle.node_core.specs.Standing.{ConfigState, Standing, raised, place_in, mark_at}
-use Rattle.node_core.specs.Transition.{Transition, quiet}
-use Rattle.node_core.specs.Sending.{sealing, drawing, under_key, on_channel, data_head, group_field, device_channel}
+use Rattle.node_core.specs.Transition.{quiet}
+use Rattle.node_core.specs.Sending.{sealing, under_key, on_channel, data_head, group_field, device_channel}
 use Rattle.node_core.specs.Receiving.{addressee, kept_raises, number_sent, reply_transition, effect_transition, row_transition, act_transition, mark_told, verdict_transition, lane_transition, telegram_transition, addressed_transition, frame_transition, receive_transition}
 use Rattle.node_core.specs.Laws.{IsForOthers, refusal_in, reply_in, HasItsCause}
 use Rattle.node_core.specs.Node.{NodeState, receive_stop, Does}
@@ -290,11 +287,12 @@ lane_told c s to t lane has_values is_for =
     let raises = kept_raises (place_in c lane) (kept_by c.rows mark asked t) in
     let said = verdict_of c.rows mark asked t in
     verdict_told c (raised raises s) (source_of t) to lane (opened_by c.rows asked t) said
-    (λ good object is_object.
-      (readable c (raised raises s) t to object has_values is_for is_object,
-      group_has_key c t to object is_for is_object (good_is_entitled c.rows mark asked t good)))
+    (λ good object is_object. (
+      readable c (raised raises s) t to object has_values is_for is_object,
+      group_has_key c t to object is_for is_object (good_is_entitled c.rows mark asked t good),
+    ))
     (λ is_request. answerable c t to is_for (is_no_group c.rows mark asked t is_request)
-      (good_is_entitled c.rows mark asked t (ask_is_good said is_request)))
+    (good_is_entitled c.rows mark asked t (ask_is_good said is_request)))
 
 bad_told : (next : ℕ) (said : Verdict) (good : Bool) → is_good said ≡ good → (is_good said ≡ true → ⊥) → Told next (outcome.Refused said)
 bad_told next said true is never = elim (never is) [ ]

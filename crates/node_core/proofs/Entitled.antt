@@ -7,7 +7,7 @@ use Rattle.cemi_frames.specs.Frames.{Telegram}
 use Rattle.key_tables.specs.declared.types.Channel.{Channel}
 use Rattle.key_tables.specs.declared.types.Role.{Role}
 use Rattle.key_tables.specs.declared.types.Row.{Row}
-use Rattle.key_tables.specs.Rows.{key_of, role_of, receiver_may, is_enough, level_of}
+use Rattle.key_tables.specs.Rows.{key_of, role_of, is_enough, level_of}
 use Rattle.plain_apdu.specs.declared.service.Service.{Service}
 use Rattle.plain_apdu.specs.Service as services
 use Rattle.secure_apdu.specs.declared.secure.BadSecure.{BadSecure}
@@ -17,8 +17,8 @@ use Rattle.secure_apdu.specs.Sync.{sync_values}
 use Rattle.judge_rules.specs.declared.verdict.Verdict.{Verdict}
 use Rattle.judge_rules.specs.declared.verdict.Verdict.TheVariants as verdict
 use Rattle.judge_rules.specs.declared.verdict.BadService.TheVariants as bad
-use Rattle.judge_rules.specs.Parts.{is_group, source_of, sync_service, number_in, channel_in, head_in, body_in, field_in, service_in, bits_in}
-use Rattle.judge_rules.specs.Checks.{check_control, check_plain, check_secure, check_key, check_pending, unless_opened, codes_in, check_code, check_payload, check_sender, check_stale, check_level, is_conf, check_role, needed_role, unless_enough, check_upper, check_service, is_service_on, first_failing, lane_checks, entry_checks, code_checks, data_checks, last_checks, good_verdict, verdict_or, verdict_on, on_channel, apdu_in, key_on, verdict_of, is_good, is_ask, IsEntitled}
+use Rattle.judge_rules.specs.Parts.{is_group, source_of, sync_service, number_in, channel_in, field_in, service_in, bits_in}
+use Rattle.judge_rules.specs.Checks.{check_control, check_plain, check_secure, check_key, check_pending, unless_opened, codes_in, check_code, check_payload, check_sender, check_stale, check_level, is_conf, check_role, needed_role, unless_enough, check_upper, check_service, is_service_on, first_failing, entry_checks, code_checks, data_checks, last_checks, good_verdict, verdict_or, verdict_on, on_channel, apdu_in, key_on, verdict_of, is_good, is_ask, IsEntitled}
 use Rattle.judge_rules.proofs.Channels.{channel_in_has_key}
 use Rattle.judge_rules.proofs.Entitling.{entitled}
 
@@ -106,6 +106,14 @@ third_passes None None (Some _) rest is = absurd cc
 third_passes None (Some _) third rest is = absurd cc
 third_passes (Some _) second third rest is = absurd cc
 
+-- the first three pass, and so do those after them
+parts_pass : (first second third : Option Verdict) (rest : List (Option Verdict)) → first_failing (first ∷ second ∷ third ∷ rest) ≡ None
+    → (first_failing (first ∷ second ∷ third ∷ []) ≡ None) × (first_failing rest ≡ None)
+parts_pass None None None rest is = (refl, is)
+parts_pass None None (Some _) rest is = absurd cc
+parts_pass None (Some _) third rest is = absurd cc
+parts_pass (Some _) second third rest is = absurd cc
+
 good_on : (found : Option Channel) (of : Channel → Verdict) → is_good (on_channel verdict.NoKey found of) ≡ true
     → (c : Channel) × (found ≡ Some c) × (on_channel verdict.NoKey found of ≡ of c)
 good_on None of is = absurd cc
@@ -116,7 +124,9 @@ pub record Passes (rows : List Row) (mark : ℕ) (asked : Option (List ℕ)) (t 
   pub channel : Channel
   pub channel_is : channel_in rows t ≡ Some channel
   pub entered : first_failing (entry_checks rows asked t) ≡ None
+  pub coded : first_failing (code_checks rows (number_in asked t) channel t) ≡ None
   pub sender : check_sender rows channel t ≡ None
+  pub last : first_failing (last_checks rows mark (number_in asked t) channel t (apdu_in (key_on rows channel) (number_in asked t) t)) ≡ None
   pub verdict_is : verdict_of rows mark asked t
       ≡ good_verdict (number_in asked t) t (apdu_in (key_on rows channel) (number_in asked t) t)
 
@@ -138,10 +148,13 @@ passes rows mark asked t is =
     let none = good_where good checks
     (bad_on rows mark number c t apdu last (bad_last (sync_service t == 0) (data_checks rows mark number c t apdu) (bad_data rows mark number c t apdu)))
     (sym (ap is_good found.2) ∙ sym (ap is_good whole) ∙ is) in
+    let parts = parts_pass (check_code (key_on rows c) number t) (check_payload number t apdu) (check_sender rows c t) last none in
     record {
       channel = c;
       channel_is = found.1;
       entered = entered;
+      coded = parts.0;
+      last = parts.1;
       sender = third_passes (check_code (key_on rows c) number t) (check_payload number t apdu) (check_sender rows c t) last none;
       verdict_is = whole ∙ found.2 ∙ ap (verdict_or good) none;
     }

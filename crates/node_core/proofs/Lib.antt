@@ -2,5 +2,6 @@ mod Starting
 mod Keeping
 mod Entitled
 mod Causes
+mod Firsts
 mod Raising
 mod Acting

@@ -1,5 +1,5 @@
 -- What holds of every transition of a node, and of every configuration.
-use Rattle.std.specs.Prelude.{◌≡◌, ◌↔◌, ℕ, ◌^◌, List, length, true, false, Option, Some, None, IfSome}
+use Rattle.std.specs.Prelude.{◌≡◌, ◌↔◌, ℕ, ◌<◌, ◌^◌, List, ◌∷◌, slice_index, true, false, Option, Some, None, IfSome}
 use Rattle.std.specs.Option.{is_some}
 use Rattle.cemi_frames.specs.Faults.{frame_fault}
 use Rattle.cemi_frames.specs.Frames.{Telegram}
@@ -8,12 +8,13 @@ use Rattle.key_tables.specs.declared.types.Lane.{Lane}
 use Rattle.key_tables.specs.Lanes.{has_lane}
 use Rattle.judge_rules.specs.Checks.{kept_by, is_good}
 use Rattle.judge_rules.specs.declared.verdict.Verdict.{Verdict}
-use Rattle.seq_store.specs.Runs.{after_raises}
+use Rattle.seq_store.specs.Runs.{Raise, Mark, after_raises}
+use Rattle.node_core.specs.declared.outcome.Act.{Act}
 use Rattle.node_core.specs.declared.outcome.Act.TheVariants as act
 use Rattle.node_core.specs.declared.outcome.Outcome.{Outcome}
 use Rattle.node_core.specs.declared.outcome.Outcome.TheVariants as outcome
-use Rattle.node_core.specs.Receiving.{addressee}
-use Rattle.node_core.specs.Standing.{ConfigState, Standing}
+use Rattle.node_core.specs.Receiving.{addressee, receive_transition}
+use Rattle.node_core.specs.Standing.{ConfigState, Standing, place_in}
 use Rattle.node_core.specs.Transition.{Transition}
 
 -- The numbers afterwards are those that the raises leave.
@@ -25,6 +26,21 @@ abbrev pub KeepsOnLanes : ConfigState → Type 0
 KeepsOnLanes c =
     (t : Telegram) (mark : ℕ) (asked : Option (List ℕ)) (kept : Lane × ℕ)
     → is_some (addressee c t) ≡ true → kept_by c.rows mark asked t ≡ Some kept → has_lane c.lanes kept.0 ≡ true
+
+-- The mark of this lane, which is one of the node's, is below this number, and is raised to it before all else.
+pub record IsRaisedFirst (c : ConfigState) (s : Standing) (t : Transition Outcome) (lane : Lane) (number : ℕ) : Type 0 where
+  pub place : ℕ
+  pub place_is : place_in c lane ≡ Some place
+  pub above : slice_index s.numbers.marks place < number
+  pub others : List Raise
+  pub raises_are : t.raises ≡ Mark place number ∷ others
+
+-- What a node acts on is above the mark of its lane, and that mark is raised first.
+abbrev pub RaisesBeforeActing : ConfigState → Type 0
+RaisesBeforeActing c =
+    (s : Standing) (octets : List ℕ) (number : ℕ) (lane : Lane) (does : Act)
+    → (receive_transition c s octets).outcome ≡ outcome.Acted number lane does
+    → IsRaisedFirst c s (receive_transition c s octets) lane number
 
 -- ---- what an outcome tells
 

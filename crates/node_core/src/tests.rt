@@ -394,32 +394,34 @@ fn send<M: Nvm>(
     Ok(node.send(object, SendService::Write, out))
 }
 
-// Over a memory whose calls fail one after another: either the node is not made, or it acts and runs on, or it is
-// stopped before it acts.
+// Over a memory whose calls fail one after another.
 #[test]
 fn a_stop_comes_before_the_act(rt: HostRuntime) -> Result<(), Fail> {
-    let alloc = rt.alloc();
-    let write = octets(alloc, WRITE_1)?;
-    let size = store_size(lamp(alloc)?.lanes().len());
-    let act = Act::Write {
-        object: 0,
-        value: bits(1)?,
-    };
-    let did = shows(acted(1, RUN, act)?, 1, 1, 1)?;
-    let stopped = shows(Outcome::Stopped(NvmFault::Failed), 1, 0, 0)?;
     let mut was_stopped = false;
     for call in 1..=30 {
-        let memory = FailingNvm::new(alloc, size, call, 0xa5)?;
-        let Some(mut node) = node_over(alloc, lamp(alloc)?, memory)? else {
-            continue;
-        };
-        let told = see(&mut node, &write, &mut FrameBuf::new())?;
-        let want = if node.is_running() { did } else { stopped };
-        was_stopped = was_stopped || !node.is_running();
-        assert_eq!(rt; told, want, "call {call}");
+        let stops = stops_at(rt.alloc(), call)?;
+        was_stopped = was_stopped || stops;
     }
     assert!(rt; was_stopped);
     Ok(())
+}
+
+// Whether a node is stopped where this call of its memory fails. It is not made, or it acts and runs on, or it is stopped
+// before it acts.
+fn stops_at(alloc: Global, call: u64) -> Result<bool, Fail> {
+    let config = lamp(alloc)?;
+    let memory = FailingNvm::new(alloc, store_size(config.lanes().len()), call, 0xa5)?;
+    let Some(mut node) = node_over(alloc, config, memory)? else {
+        return Ok(false);
+    };
+    let write = octets(alloc, WRITE_1)?;
+    let outcome = receive(&mut node, &write, &mut FrameBuf::new())?;
+    let stops = outcome == Outcome::Stopped(NvmFault::Failed);
+    let value = if stops { bits(0)? } else { bits(1)? };
+    if node.is_running() == stops || node.value(0) != Some(value) {
+        return Err(Fail::from("neither stopped nor acted"));
+    }
+    Ok(stops)
 }
 
 // A telegram whose mark was not raised before power was lost is acted on afterwards, unless the memory fails again.
@@ -431,11 +433,12 @@ fn a_cut_before_the_mark_leaves_the_telegram(rt: HostRuntime) -> Result<(), Fail
     let mut node = over_sim(alloc, lamp(alloc)?)?;
     node.arm_fail(2, 0xa5);
     node.arm_cut(1, 0xa5);
-    let faults = [NvmFault::Cut, NvmFault::Failed];
-    for fault in faults {
-        assert_eq!(rt; receive(&mut node, &write, &mut out)?, Outcome::Stopped(fault));
-        node = again(alloc, node)?;
-    }
+    let cut = Outcome::Stopped(NvmFault::Cut);
+    assert_eq!(rt; receive(&mut node, &write, &mut out)?, cut);
+    let mut node = again(alloc, node)?;
+    let failed = Outcome::Stopped(NvmFault::Failed);
+    assert_eq!(rt; receive(&mut node, &write, &mut out)?, failed);
+    let mut node = again(alloc, node)?;
     assert_eq!(rt; node.value(0), Some(bits(0)?));
     receive(&mut node, &write, &mut out)?;
     assert_eq!(rt; node.value(0), Some(bits(1)?));
@@ -506,25 +509,26 @@ fn a_memory_of_zeros_is_not_started(rt: HostRuntime) -> Result<(), Fail> {
 #[test]
 fn what_is_no_configuration(rt: HostRuntime) -> Result<(), Fail> {
     let alloc = rt.alloc();
-    let lamp = object(GROUP, TAKES_ALL, 0)?;
-    let any = command(None);
-    let mut many = Vec::new(alloc);
-    for sender in 0x1200..0x1241 {
-        many.push(command(Some(IndAddr(sender))))?;
-    }
-    assert_eq!(rt; fault(alloc, &[any, any], &[]), Some(ConfigFault::Any(0)));
+    let any = [command(None), command(None)];
+    assert_eq!(rt; fault(alloc, &any, &[]), Some(ConfigFault::Any(0)));
+    let rows = [command(Some(PUSH)), command(Some(PUSH))];
     let twice = Some(ConfigFault::Rows(BuildFault::Twice(1)));
-    assert_eq!(rt;
-        fault(alloc, &[command(Some(PUSH)), command(Some(PUSH))], &[]),
-        twice
-    );
+    assert_eq!(rt; fault(alloc, &rows, &[]), twice);
+    let objects = [object(GROUP, TAKES_ALL, 0)?, object(GROUP, TAKES_ALL, 0)?];
     let twice = Some(ConfigFault::Objects(ObjectsFault::Twice(1)));
-    assert_eq!(rt; fault(alloc, &[], &[lamp, lamp]), twice);
-    assert_eq!(rt;
-        fault(alloc, many.as_slice(), &[lamp]),
-        Some(ConfigFault::Lanes(65))
-    );
+    assert_eq!(rt; fault(alloc, &[], &objects), twice);
+    let senders = senders(alloc)?;
+    let lanes = Some(ConfigFault::Lanes(65));
+    assert_eq!(rt; fault(alloc, senders.as_slice(), &objects[..1]), lanes);
     Ok(())
+}
+
+fn senders(alloc: Global) -> Result<Vec<Row>, Fail> {
+    let mut rows = Vec::new(alloc);
+    for sender in 0x1200..0x1241 {
+        rows.push(command(Some(IndAddr(sender))))?;
+    }
+    Ok(rows)
 }
 
 fn command(sender: Option<IndAddr>) -> Row {

@@ -3,7 +3,7 @@ ghost use Rattle.std.specs.List.{list_any};
 ghost use Rattle.seq_store.specs.Layout.{most_lanes};
 ghost use Rattle.key_tables.specs.Lanes.{is_any, lanes_of, SendersHaveLanes};
 ghost use Rattle.node_core.specs.Config.{configured, config_fault, groups_of, IsConfigFault};
-ghost use Rattle.node_core.specs.Laws.{KeepsOnLanes};
+ghost use Rattle.node_core.specs.Laws.{KeepsOnLanes, RaisesBeforeActing};
 ghost use Rattle.node_core.specs.Node.{config_state};
 
 use crate::{Config, ConfigFault};
@@ -29,6 +29,7 @@ impl Config {
     ) -> Result<Config, ConfigFault>
         ensures config { IfOk result (λ config. config_state config ≡ configured address rows.now objects.now) }
         ensures keeps { IsOk result → KeepsOnLanes (configured address rows.now objects.now) }
+        ensures raises_first { IsOk result → RaisesBeforeActing (configured address rows.now objects.now) }
         ensures stand { IsOk result → config_fault (configured address rows.now objects.now) ≡ None }
         ensures fault { IfErr result
             (λ fault. IsConfigFault fault (config_fault (configured address rows.now objects.now))) }
