@@ -1,0 +1,7 @@
+mod Starting
+mod Keeping
+mod Entitled
+mod Causes
+mod Firsts
+mod Raising
+mod Acting
