@@ -1,0 +1,5 @@
+pub mod Turn
+pub mod Machine
+pub mod Runs
+pub mod Slot
+pub mod World

@@ -1,0 +1,1 @@
+-- What a world shows. This is statement.

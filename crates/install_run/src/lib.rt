@@ -1,0 +1,10 @@
+//! An installation of KNX Data Secure devices over simulated memories, stepped by events.
+//!
+//! What an event makes of an installation is one function from the world before to the outcome and the world after.
+#![tactic(auto)]
+
+mod call;
+mod power;
+mod slot;
+
+pub use step_text::{Entry, Step, StepOutcome};
