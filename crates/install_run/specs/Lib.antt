@@ -1,5 +1,6 @@
 pub mod Turn
 pub mod Machine
 pub mod Runs
+pub mod Air
 pub mod Slot
-pub mod World
+pub mod Taking

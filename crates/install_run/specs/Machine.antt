@@ -1,7 +1,8 @@
 -- What an event makes of an installation: its nodes with their memories, and the telegrams on the air. This is statement.
-use Rattle.std.specs.Prelude.{ℕ, zero, suc, ◌+◌, ◌-◌, List, [], ◌∷◌, ◌++◌, length, map, set, slice_get, get_or, option_to_list, Bool, true, false, Option, Some, None, if◌then◌else◌}
+use Rattle.std.specs.Prelude.{ℕ, zero, suc, ◌+◌, ◌-◌, List, [], ◌∷◌, ◌++◌, length, set, slice_get, get_or, Bool, true, false, Option, Some, None, if◌then◌else◌}
 use Rattle.nvm_model.specs.Plan.{unarmed}
 use Rattle.nvm_model.specs.SimNvm.{with_cut, with_fault}
+use Rattle.node_core.specs.Node.{handed}
 use Rattle.node_core.specs.Standing.{ConfigState}
 use Rattle.node_core.specs.Sending.{send_transition, tool_transition, ask_transition, set_transition}
 use Rattle.script_text.specs.declared.event.Event.{Event}
@@ -71,12 +72,23 @@ no_node = record { config = no_config; standing = None; octets = []; plan = unar
 abbrev pub node_in : WorldAt → ℕ → NodeAt
 node_in w place = get_or w.nodes place no_node
 
+-- a telegram that a node sealed was put on the air
+abbrev pub has_telegram : StepOutcome → Bool
+has_telegram (outcome.Air telegram number) = true
+has_telegram (outcome.Acted number lane act (Some telegram)) = true
+has_telegram (outcome.Answered challenge (Some telegram)) = true
+has_telegram _ = false
+
+abbrev pub telegrams_of : Bool → List ℕ → List TelegramAt
+telegrams_of true octets = put_on_air octets ∷ []
+telegrams_of false octets = []
+
 abbrev pub with_turn : ℕ → Turn → WorldAt → WorldTurn
 with_turn place turn w = record {
   outcome = turn.outcome;
   world = record {
     nodes = set w.nodes place turn.node;
-    air = w.air ++ map put_on_air (option_to_list turn.sent);
+    air = w.air ++ telegrams_of (has_telegram turn.outcome) (handed turn.sent []);
   };
 }
 

@@ -14,10 +14,9 @@ use step_text::StepOutcome;
 
 impl Slot {
     // The node's own application sets a value.
-    pub(crate) fn set(&mut self, object: usize, value: Value, out: &mut FrameBuf) -> StepOutcome
-        requires empty { out.old ≡ [] }
+    pub(crate) fn set(&mut self, object: usize, value: Value) -> StepOutcome
         ensures taken { let n = slot_at self.old in
-            IsTaken (call_turn (λ s. set_transition s object value) set_told n n.standing) result (slot_at self.new) out.new }
+            IsTaken (call_turn (λ s. set_transition s object value) set_told n n.standing) result (slot_at self.new) [] }
         ensures cause { HasStopCause result (counts_at self.old) (counts_at self.new) }
         ensures sound { IsSound (slot_at self.old) → IsSound (slot_at self.new) }
     {

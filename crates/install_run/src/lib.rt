@@ -3,8 +3,11 @@
 //! What an event makes of an installation is one function from the world before to the outcome and the world after.
 #![tactic(auto)]
 
+mod air;
 mod call;
+mod octets;
 mod power;
 mod slot;
+mod take;
 
 pub use step_text::{Entry, Step, StepOutcome};

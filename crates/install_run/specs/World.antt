@@ -1,1 +1,0 @@
--- What a world shows. This is statement.
