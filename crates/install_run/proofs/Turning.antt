@@ -71,4 +71,3 @@ pub receive_in : (air : List TelegramAt) (telegram node : ℕ) (old new : NodeAt
 receive_in air telegram node old new said out taken = record {
   in_each = λ w place. by_turn (λ air n. receive_turn (length air) (heard (telegram_in air telegram)) n n.standing) air node place w old new said out taken;
 }
-

@@ -1,6 +1,5 @@
 -- What the place of a node shows. This is statement.
 use Rattle.std.specs.Prelude.{◌≡◌, ℕ, List, [], length, Bool, true, false, Option, Some, None, unwrap_or, if◌then◌else◌}
-use Rattle.knx_base.specs.Faults.{Rose}
 use Rattle.nvm_model.specs.Nvm.{State}
 use Rattle.nvm_model.specs.Plan.{unarmed}
 use Rattle.nvm_model.specs.SimNvm.{sim_state}
@@ -9,9 +8,9 @@ use Rattle.seq_store.specs.Runs.{RestoresNumbers, numbers_in}
 use Rattle.node_core.specs.Standing.{ConfigState, Standing}
 use Rattle.node_core.specs.Node.{NodeState, config_state, node_state, handed}
 use Rattle.step_text.specs.declared.outcome.StepOutcome.{StepOutcome}
-use Rattle.step_text.specs.declared.outcome.StepOutcome.TheVariants as outcome
 use Rattle.install_run.specs.declared.slot.Slot.{Slot}
 use Rattle.install_run.specs.declared.slot.Slot.TheVariants.{Started, Stopped, Empty}
+use Rattle.install_run.specs.Counts.{Counts, no_counts, counts_in}
 use Rattle.install_run.specs.Turn.{NodeAt, Turn}
 use Rattle.install_run.specs.Machine.{no_node}
 
@@ -39,23 +38,10 @@ slot_at Empty = no_node
 
 -- ---- counts
 
--- how many calls of a memory failed, and how many were cut
-pub record Counts : Type 0 where
-  pub faults : ℕ
-  pub cuts : ℕ
-
-abbrev pub counts_in : State → Counts
-counts_in memory = record { faults = memory.faults; cuts = memory.cuts }
-
 abbrev pub counts_at : Slot → Counts
 counts_at (Started node) = counts_in (sim_state (node_state node).memory)
 counts_at (Stopped config memory) = counts_in (sim_state memory)
-counts_at Empty = record { faults = 0; cuts = 0 }
-
--- Each stop has its cause in a count of the node's memory that rose.
-pub record HasStopCause (said : StepOutcome) (old new : Counts) : Type 0 where
-  pub cut : said ≡ outcome.Cut → Rose old.cuts new.cuts
-  pub fault : said ≡ outcome.Fault → Rose old.faults new.faults
+counts_at Empty = no_counts
 
 -- the memory as it was, and so are its power, what is armed and its counts
 pub record IsSameMemory (old new : State) : Type 0 where

@@ -2,7 +2,8 @@
 ghost use Rattle.std.specs.Prelude.{◌≡◌, ◌^◌, ◌<◌, ◌-◌, ◌+◌, ◌≤◌, length, option_map, []};
 ghost use Rattle.node_core.specs.Sending.{send_transition, tool_transition, ask_transition, set_transition};
 ghost use Rattle.install_run.specs.Turn.{call_turn, receive_turn, set_told, send_told, receive_told, reply_told, act_told, stop_outcome};
-ghost use Rattle.install_run.specs.Slot.{slot_at, counts_at, HasStopCause, IsTaken, IsSound};
+ghost use Rattle.install_run.specs.Counts.{HasStopCause};
+ghost use Rattle.install_run.specs.Slot.{slot_at, counts_at, IsTaken, IsSound};
 
 use crate::slot::Slot;
 use group_objects::{SendService, SetFault, Value};

@@ -6,6 +6,7 @@
 mod air;
 mod call;
 mod octets;
+mod place;
 mod power;
 mod slot;
 mod take;

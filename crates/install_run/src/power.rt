@@ -3,7 +3,8 @@ ghost use Rattle.std.specs.Prelude.{◌≡◌, ◌≤◌, [], true, None, length
 ghost use Rattle.nvm_model.specs.SimNvm.{sim_state, with_cut, with_fault};
 ghost use Rattle.node_core.specs.Node.{config_state, node_state, IsStarted};
 ghost use Rattle.install_run.specs.Turn.{off_turn, on_turn, arm_turn};
-ghost use Rattle.install_run.specs.Slot.{node_at, slot_at, counts_at, counts_in, IsTaken, IsSound, IsSameMemory};
+ghost use Rattle.install_run.specs.Counts.{counts_in};
+ghost use Rattle.install_run.specs.Slot.{node_at, slot_at, counts_at, IsTaken, IsSound, IsSameMemory};
 
 use crate::slot::Slot;
 use knx_base::{NoMemory, Number48};

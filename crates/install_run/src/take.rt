@@ -2,7 +2,8 @@
 ghost use Rattle.std.specs.Prelude.{◌≡◌, ◌<◌, ◌-◌, ◌^◌, [], length, IsSome, IfOk, OnErr, option_map};
 ghost use Rattle.group_objects.specs.Value.{ObjectValue};
 ghost use Rattle.install_run.specs.Runs.{place_of};
-ghost use Rattle.install_run.specs.Slot.{slot_at, counts_at, HasStopCause, IsSound};
+ghost use Rattle.install_run.specs.Counts.{HasStopCause};
+ghost use Rattle.install_run.specs.Slot.{slot_at, counts_at, IsSound};
 ghost use Rattle.install_run.specs.Taking.{IsSomeEvent, IsTakenBy};
 
 use crate::air::{Telegram, heard};
