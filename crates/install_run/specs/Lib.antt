@@ -6,3 +6,4 @@ pub mod Counts
 pub mod Slot
 pub mod Taking
 pub mod Place
+pub mod World

@@ -40,6 +40,13 @@ abbrev pub heard : Option TelegramAt → Option (List ℕ)
 heard None = None
 heard (Some t) = if t.is_lost then None else Some t.octets
 
+abbrev pub is_lost : Option TelegramAt → Bool
+is_lost None = false
+is_lost (Some t) = t.is_lost
+
+abbrev pub is_lost_in : List TelegramAt → ℕ → Bool
+is_lost_in air number = is_lost (telegram_in air number)
+
 abbrev pub lost_in : List TelegramAt → ℕ → Option TelegramAt → List TelegramAt
 lost_in air number None = air
 lost_in air number (Some t) = set air (number - 1) (record t { is_lost = true })

@@ -22,3 +22,9 @@ pub record IsTakenIn (t : WorldTurn) (w : WorldAt) (place : ℕ) (said : StepOut
 pub record IsTakenBy (e : Event) (air : List TelegramAt) (old : NodeAt) (said : StepOutcome) (new : NodeAt) (out : List ℕ) : Type 0 where
   pub in_each : (w : WorldAt) (place : ℕ) → place_of e ≡ Some place → node_in w place ≡ old → w.air ≡ air
       → IsTakenIn (turn_of e w) w place said new out
+
+-- The turn changed no node: this came of it, and the telegrams are these then.
+pub record IsTurnedOnAir (t : WorldTurn) (nodes : List NodeAt) (said : StepOutcome) (air : List TelegramAt) : Type 0 where
+  pub outcome_is : said ≡ t.outcome
+  pub nodes_are : t.world.nodes ≡ nodes
+  pub air_is : t.world.air ≡ air

@@ -10,5 +10,8 @@ mod place;
 mod power;
 mod slot;
 mod take;
+mod turn;
+mod world;
 
 pub use step_text::{Entry, Step, StepOutcome};
+pub use world::World;

@@ -1,5 +1,6 @@
 //! The place of a node: the node, and its journal.
 ghost use Rattle.std.specs.Prelude.{◌≡◌, ◌<◌, ◌-◌, ◌^◌, ◌++◌, [], length, IsSome, IfOk, OnErr, option_to_list};
+ghost use Rattle.std.specs.Option.{is_some};
 ghost use Rattle.install_run.specs.Counts.{HasStopCause};
 ghost use Rattle.install_run.specs.Runs.{place_of, entries_of};
 ghost use Rattle.install_run.specs.Taking.{IsSomeEvent, IsTakenBy};
@@ -64,6 +65,26 @@ impl Place {
         ensures journal { result.now ≡ self.now.journal }
     {
         &self.journal
+    }
+
+    // The octets of the node's memory.
+    pub(crate) fn image(&self) -> &[u8]
+        ensures octets { result.now ≡ self.now.node.octets }
+    {
+        match &self.slot {
+            Slot::Started(node) => node.memory().image(),
+            Slot::Stopped(_, memory) => memory.image(),
+            Slot::Empty => &[],
+        }
+    }
+
+    pub(crate) fn is_running(&self) -> bool
+        ensures running { result ≡ is_some self.now.node.standing }
+    {
+        match &self.slot {
+            Slot::Started(node) => node.is_running(),
+            Slot::Stopped(..) | Slot::Empty => false,
+        }
     }
 }
 
