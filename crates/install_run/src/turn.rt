@@ -1,7 +1,7 @@
 //! What an event makes of the places of nodes and of the air.
-ghost use Rattle.std.specs.Prelude.{◌≡◌, ◌<◌, ◌-◌, ◌+◌, ◌^◌, ◌≤◌, Some, None, List, length, vec_len, vec_capacity, IfOk, OnErr};
+ghost use Rattle.std.specs.Prelude.{◌≡◌, ◌<◌, ◌-◌, ◌+◌, ◌^◌, ◌≤◌, ◌++◌, Some, None, List, length, vec_len, vec_capacity, IfOk, OnErr};
 ghost use Rattle.script_text.specs.Script.{IsEvent};
-ghost use Rattle.install_run.specs.Machine.{has_telegram, inject_turn, turn_of};
+ghost use Rattle.install_run.specs.Machine.{has_telegram, telegrams_of, inject_turn, turn_of};
 ghost use Rattle.install_run.specs.Place.{IsTurned};
 ghost use Rattle.install_run.specs.Runs.{place_of};
 ghost use Rattle.install_run.specs.Turn.{NodeAt};
@@ -71,10 +71,18 @@ fn turn_node(
 {
     let mut out = FrameBuf::new();
     let outcome = places[place].take(alloc, event, air, &mut out)?;
-    if has_telegram(&outcome) {
+    put(air, &outcome, out);
+    Ok(outcome)
+}
+
+// Puts what a node sealed on the air, which has room for it.
+fn put(air: &mut Vec<Telegram>, outcome: &StepOutcome, out: FrameBuf)
+    requires room { vec_len air.old < vec_capacity air.old }
+    ensures sent { air.new.items ≡ air.old.items ++ telegrams_of (has_telegram outcome.now) out }
+{
+    if has_telegram(outcome) {
         let _ = air.push(Telegram::sealed(out));
     }
-    Ok(outcome)
 }
 
 // Whether a telegram that a node sealed was put on the air.

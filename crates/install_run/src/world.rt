@@ -1,4 +1,4 @@
-ghost use Rattle.std.specs.Prelude.{◌≡◌, ◌<◌, ◌-◌, ◌+◌, ◌^◌, ◌≤◌, ℕ, length, take, OnOk, OnErr};
+ghost use Rattle.std.specs.Prelude.{◌≡◌, ◌<◌, ◌-◌, ◌+◌, ◌^◌, ◌≤◌, ◌++◌, ◌∷◌, [], ℕ, length, take, vec_len, vec_capacity, OnOk, OnErr};
 ghost use Rattle.std.specs.List.{All};
 ghost use Rattle.script_text.specs.Script.{IsEvent};
 ghost use Rattle.install_run.specs.World.{IsStepped, HasRun, KeepsScript};
@@ -13,7 +13,7 @@ use knx_base::NoMemory;
 use script_text::{Event, NodeRow};
 use std::alloc::Global;
 use std::marker::Model;
-use step_text::Step;
+use step_text::{Step, StepOutcome};
 
 /// An installation that is stepped by events: its nodes, each over a simulated memory, and the telegrams on the air.
 ///
@@ -51,14 +51,12 @@ impl World {
         self.air.reserve(1)?;
         self.steps.reserve(1)?;
         let outcome = turn(&mut self.places, &mut self.air, self.alloc, event)?;
-        let _ = self.steps.push(Step {
-            event: *event,
-            outcome,
-        });
+        note(&mut self.steps, event, outcome);
         Ok(())
     }
 
     /// Takes events in turn. Where there is no memory for one of them those before it were taken.
+    #[tactic(auto, using(crate::proofs::Stepping::run_none))]
     pub fn run(&mut self, events: &[Event]) -> Result<(), NoMemory>
         requires events { All (IsEvent (length self.old.world.nodes)) events.now }
         requires few { length self.old.history + length events.now < 2 ^ 32 }
@@ -71,4 +69,15 @@ impl World {
         }
         Ok(())
     }
+}
+
+// Notes a step, for which there is room.
+fn note(steps: &mut Vec<Step>, event: &Event, outcome: StepOutcome)
+    requires room { vec_len steps.old < vec_capacity steps.old }
+    ensures noted { steps.new.items ≡ steps.old.items ++ record { event = event.now; outcome = outcome } ∷ [] }
+{
+    let _ = steps.push(Step {
+        event: *event,
+        outcome,
+    });
 }
