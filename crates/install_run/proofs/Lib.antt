@@ -1,3 +1,4 @@
 mod Sounding
 mod Turning
 mod Stepping
+mod Beginning

@@ -7,3 +7,4 @@ pub mod Slot
 pub mod Taking
 pub mod Place
 pub mod World
+pub mod First

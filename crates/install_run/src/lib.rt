@@ -5,6 +5,7 @@
 
 mod air;
 mod call;
+mod first;
 mod octets;
 mod place;
 mod power;

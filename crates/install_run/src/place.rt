@@ -2,13 +2,18 @@
 ghost use Rattle.std.specs.Prelude.{◌≡◌, ◌<◌, ◌-◌, ◌^◌, ◌++◌, [], length, IsSome, IfOk, OnErr, option_to_list};
 ghost use Rattle.std.specs.Option.{is_some};
 ghost use Rattle.install_run.specs.Counts.{HasStopCause};
+ghost use Rattle.script_text.specs.Script.{IsNode};
+ghost use Rattle.install_run.specs.First.{first_place, RowsStand};
 ghost use Rattle.install_run.specs.Runs.{place_of, entries_of};
 ghost use Rattle.install_run.specs.Taking.{IsSomeEvent, IsTakenBy};
 
 use crate::air::Telegram;
+use crate::first::{configured, formatted};
+use crate::power::started;
 use crate::slot::Slot;
+use key_tables::Row;
 use knx_base::NoMemory;
-use script_text::Event;
+use script_text::{Event, NodeRow};
 use secure_apdu::FrameBuf;
 use std::alloc::Global;
 use std::marker::Model;
@@ -35,6 +40,23 @@ impl Model for Place {
 }
 
 impl Place {
+    // The first place of a node of these rows.
+    pub(crate) fn first(alloc: Global, rows: &[Row], node: &NodeRow) -> Result<Place, NoMemory>
+        requires rows { RowsStand rows.now }
+        requires node { IsNode rows.now node.now }
+        ensures place { IfOk result (λ place. place ≡ first_place rows.now node.now) }
+    {
+        let config = configured(alloc, rows, node)?;
+        let memory = formatted(alloc, node)?;
+        match started(alloc, config, memory) {
+            Ok((started, _)) => Ok(Place {
+                slot: Slot::Started(started),
+                journal: Vec::new(alloc),
+            }),
+            Err(_) => Err(NoMemory),
+        }
+    }
+
     // Takes an event of the node, while these telegrams are on the air.
     pub(crate) fn take(
         &mut self,

@@ -142,7 +142,7 @@ fn start(alloc: Global, config: Config, memory: SimNvm) -> (Slot, Result<StepOut
 
 // A node that was started, and the marks of its lanes.
 #[tactic(auto, using(crate::proofs::Sounding::only_memory))]
-fn started(
+pub(crate) fn started(
     alloc: Global,
     config: Config,
     memory: SimNvm,

@@ -1,16 +1,18 @@
-ghost use Rattle.std.specs.Prelude.{◌≡◌, ◌<◌, ◌-◌, ◌+◌, ◌^◌, ◌≤◌, ◌++◌, ◌∷◌, [], ℕ, length, take, vec_len, vec_capacity, OnOk, OnErr};
+ghost use Rattle.std.specs.Prelude.{◌≡◌, ◌<◌, ◌-◌, ◌+◌, ◌^◌, ◌≤◌, ◌++◌, ◌∷◌, [], ℕ, length, take, IfOk, vec_len, vec_capacity, OnOk, OnErr};
 ghost use Rattle.std.specs.List.{All};
 ghost use Rattle.script_text.specs.Script.{IsEvent};
+ghost use Rattle.install_run.specs.First.{IsFirst};
 ghost use Rattle.install_run.specs.World.{IsStepped, HasRun, KeepsScript};
 
 mod views;
 
 use crate::air::Telegram;
+use crate::first::{copied_nodes, first_places};
 use crate::place::Place;
 use crate::turn::turn;
 use key_tables::Row;
 use knx_base::NoMemory;
-use script_text::{Event, NodeRow};
+use script_text::{Event, NodeRow, Script};
 use std::alloc::Global;
 use std::marker::Model;
 use step_text::{Step, StepOutcome};
@@ -40,6 +42,24 @@ impl Model for World {
 }
 
 impl World {
+    /// The installation as the script begins: each node runs over a memory that was formatted with its marks, and with
+    /// all numbers below its next one reserved. Nothing is armed, and no telegram is on the air.
+    pub fn new(alloc: Global, script: &Script) -> Result<World, NoMemory>
+        ensures first { IfOk result (λ world. IsFirst script.now.rows script.now.nodes world) }
+    {
+        let rows = Vec::from_slice(alloc, script.rows())?;
+        let nodes = copied_nodes(alloc, script.nodes())?;
+        let places = first_places(alloc, script.rows(), script.nodes())?;
+        Ok(World {
+            alloc,
+            rows,
+            nodes,
+            places,
+            air: Vec::new(alloc),
+            steps: Vec::new(alloc),
+        })
+    }
+
     /// Takes an event, and notes what came of it. Where there is no memory nothing has changed.
     pub fn step(&mut self, event: &Event) -> Result<(), NoMemory>
         requires event { IsEvent (length self.old.world.nodes) event.now }
