@@ -11,7 +11,7 @@ ghost use Rattle.std.specs.List.{All};
 use crate::place::Place;
 use key_tables::Row;
 use knx_base::{NoMemory, Number48};
-use node_core::Config;
+use node_core::{Config, ConfigFault};
 use nvm_model::SimNvm;
 use script_text::{Marks, NodeRow, ObjectRows};
 use seq_store::{format_store, store_size};
@@ -35,7 +35,7 @@ pub(crate) fn first_places(
 }
 
 // The configuration of a node of these rows.
-#[tactic(auto, using(crate::proofs::Beginning::stands))]
+#[tactic(auto, using(crate::proofs::Beginning::refused_by_memory))]
 pub(crate) fn configured(alloc: Global, rows: &[Row], node: &NodeRow) -> Result<Config, NoMemory>
     requires rows { RowsStand rows.now }
     requires node { IsNode rows.now node.now }
@@ -43,7 +43,8 @@ pub(crate) fn configured(alloc: Global, rows: &[Row], node: &NodeRow) -> Result<
 {
     match Config::build(alloc, node.address, rows, node.objects.as_slice()) {
         Ok(config) => Ok(config),
-        Err(_) => Err(NoMemory),
+        Err(ConfigFault::NoMemory) => Err(NoMemory),
+        Err(_) => unreachable!(),
     }
 }
 

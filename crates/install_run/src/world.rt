@@ -47,13 +47,15 @@ impl World {
     pub fn new(alloc: Global, script: &Script) -> Result<World, NoMemory>
         ensures first { IfOk result (λ world. IsFirst script.now.rows script.now.nodes world) }
     {
-        let rows = Vec::from_slice(alloc, script.rows())?;
-        let nodes = copied_nodes(alloc, script.nodes())?;
-        let places = first_places(alloc, script.rows(), script.nodes())?;
+        let rows = script.rows();
+        let nodes = script.nodes();
+        let places = first_places(alloc, rows, nodes)?;
+        let kept_rows = Vec::from_slice(alloc, rows)?;
+        let kept_nodes = copied_nodes(alloc, nodes)?;
         Ok(World {
             alloc,
-            rows,
-            nodes,
+            rows: kept_rows,
+            nodes: kept_nodes,
             places,
             air: Vec::new(alloc),
             steps: Vec::new(alloc),
