@@ -1,0 +1,4 @@
+mod Sounding
+mod Turning
+mod Stepping
+mod Beginning

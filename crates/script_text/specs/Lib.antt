@@ -1,0 +1,3 @@
+pub mod Padded
+pub mod Parts
+pub mod Script
