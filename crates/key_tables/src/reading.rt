@@ -9,7 +9,8 @@ use knx_base::{Cause, GroupAddr, IndAddr};
 use std::alloc::Global;
 use text_lines::{Lines, Words, judge_line};
 
-fn read_group(word: &str) -> Result<GroupAddr, Cause>
+/// The group address of a word, which is not 0.
+pub fn read_group(word: &str) -> Result<GroupAddr, Cause>
     ensures { result ≡ group_named word.now }
 {
     match GroupAddr::read(word) {
@@ -18,7 +19,8 @@ fn read_group(word: &str) -> Result<GroupAddr, Cause>
     }
 }
 
-fn read_device(word: &str) -> Result<IndAddr, Cause>
+/// The device address of a word.
+pub fn read_device(word: &str) -> Result<IndAddr, Cause>
     ensures { result ≡ device_named word.now }
 {
     IndAddr::read(word).ok_or(Cause::Address)
@@ -54,7 +56,8 @@ fn read_role(word: &str) -> Result<Role, Cause>
     }
 }
 
-fn read_channel(word: &str) -> Result<Channel, Cause>
+/// The channel of a word: a group, or `tool:` and a device.
+pub fn read_channel(word: &str) -> Result<Channel, Cause>
     ensures { result ≡ channel_named word.now }
 {
     match word.strip_prefix("tool:") {
@@ -72,7 +75,8 @@ fn read_sender(word: &str) -> Result<Option<IndAddr>, Cause>
     }
 }
 
-fn three_words<'a>(words: &mut Words<'a>) -> Result<(&'a str, &'a str, &'a str), Cause>
+/// The words that are left, where they are three.
+pub fn three_words<'a>(words: &mut Words<'a>) -> Result<(&'a str, &'a str, &'a str), Cause>
     ensures { MatchResult result (λ three. three_words words.old ≡ Ok (three.0.now, three.1.now, three.2.now)) (λ why. three_words words.old ≡ Err why) }
 {
     match (words.next(), words.next(), words.next(), words.next()) {
@@ -81,7 +85,8 @@ fn three_words<'a>(words: &mut Words<'a>) -> Result<(&'a str, &'a str, &'a str),
     }
 }
 
-fn two_words<'a>(words: &mut Words<'a>) -> Result<(&'a str, &'a str), Cause>
+/// The words that are left, where they are two.
+pub fn two_words<'a>(words: &mut Words<'a>) -> Result<(&'a str, &'a str), Cause>
     ensures { MatchResult result (λ two. two_words words.old ≡ Ok (two.0.now, two.1.now)) (λ why. two_words words.old ≡ Err why) }
 {
     match (words.next(), words.next(), words.next()) {
@@ -133,8 +138,9 @@ fn read_row(words: &mut Words<'_>) -> Result<Row, Cause>
     }
 }
 
+/// What a line of a tables text says: nothing, or a row.
 #[tactic(auto, unfolding(crate::specs::Text::line_says))]
-fn read_line(line: &[u8]) -> Result<Option<Row>, Cause>
+pub fn read_line(line: &[u8]) -> Result<Option<Row>, Cause>
     ensures { result ≡ line_says line.now }
 {
     match judge_line(line)? {

@@ -34,8 +34,9 @@ impl Model for RowList {
 }
 
 impl RowList {
+    /// No rows.
     #[tactic(auto, unfolding(crate::specs::Build::build_fault))]
-    pub(crate) fn new(alloc: Global) -> RowList
+    pub fn new(alloc: Global) -> RowList
         ensures { result ≡ [] }
     {
         RowList {
@@ -70,7 +71,7 @@ impl RowList {
 
     /// Adds a row at the end, unless it may not stand there.
     #[tactic(auto, unfolding(crate::specs::Build::row_fault))]
-    pub(crate) fn add(&mut self, row: Row) -> Result<(), BuildFault>
+    pub fn add(&mut self, row: Row) -> Result<(), BuildFault>
         ensures added { OnOk result ((self.new ≡ self.old ++ row ∷ []) × (row_fault self.old row ≡ None)) }
         ensures fault { IfErr result (λ fault. IsFault fault (row_fault self.old row)) }
         ensures unchanged { OnErr result (self.new ≡ self.old) }

@@ -1,3 +1,6 @@
 pub mod Padded
 pub mod Parts
 pub mod Script
+pub mod Words
+pub mod Said
+pub mod Lists

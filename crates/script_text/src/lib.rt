@@ -3,10 +3,15 @@
 #![tactic(auto)]
 
 mod event;
+mod fault;
+mod lists;
 mod node_row;
 mod octets;
+mod said;
 mod script;
+mod words;
 
 pub use event::{Event, RawFrame, ToolApdu};
+pub use fault::ScriptFault;
 pub use node_row::{Marks, Name, NodeRow, ObjectRows};
 pub use script::Script;
