@@ -14,7 +14,7 @@ mod types;
 
 pub use faults::{BuildFault, TablesFault};
 pub use lane_list::{LaneList, lanes};
-pub use reading::{read_channel, read_device, read_group, read_line, read_tables, three_words, two_words};
+pub use reading::{read_device, read_group, read_line, read_tables, three_words, two_words};
 pub use row_list::RowList;
 pub use tables::Tables;
 pub use types::{Channel, Lane, Level, Role, Row};

@@ -56,8 +56,7 @@ fn read_role(word: &str) -> Result<Role, Cause>
     }
 }
 
-/// The channel of a word: a group, or `tool:` and a device.
-pub fn read_channel(word: &str) -> Result<Channel, Cause>
+fn read_channel(word: &str) -> Result<Channel, Cause>
     ensures { result ≡ channel_named word.now }
 {
     match word.strip_prefix("tool:") {

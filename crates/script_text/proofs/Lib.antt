@@ -1,0 +1,4 @@
+mod Standing
+mod LaneTexts
+mod RowTexts
+mod Places

@@ -4,3 +4,5 @@ pub mod Script
 pub mod Words
 pub mod Said
 pub mod Lists
+pub mod Reading
+pub mod Text

@@ -1,13 +1,19 @@
 -- What was said, as the reader holds it. This is plumbing for proofs.
-use Rattle.std.specs.Prelude.{◌≡◌, ℕ, ◌<◌, ◌≤◌, ◌^◌, false, true, List, [], ◌∷◌, ◌++◌, length, None}
+use Rattle.std.specs.Prelude.{◌≡◌, ℕ, ◌<◌, ◌≤◌, ◌^◌, false, true, Bool, List, [], ◌∷◌, ◌++◌, length, map, take, drop, find, Option, Some, None, Result, Ok, Err}
 use Rattle.std.specs.List.{list_any, All, AllPairs}
 use Rattle.knx_base.specs.declared.address.IndAddr.{IndAddr}
+use Rattle.knx_base.specs.declared.cause.Cause.{Cause}
+use Rattle.knx_base.specs.declared.cause.Cause.TheVariants as cause
+use Rattle.key_tables.specs.declared.types.Lane.{Lane}
 use Rattle.key_tables.specs.declared.types.Row.{Row}
 use Rattle.key_tables.specs.Lanes.{is_any}
 use Rattle.group_objects.specs.Objects.{objects_fault}
 use Rattle.script_text.specs.Parts.{IsName}
 use Rattle.script_text.specs.Script.{most_nodes, most_events, IsEvent}
-use Rattle.script_text.specs.Said.{Before, stage_of, objects_at, is_again}
+use Rattle.script_text.specs.Said.{Before, objects_at, is_again, lanes_at, is_crowded, crowded}
+use Rattle.script_text.specs.Reading.{◌>>=◌, caused, in_order, named, line_said}
+use Rattle.script_text.specs.declared.fault.Refusal.{Refusal}
+use Rattle.script_text.specs.declared.fault.Refusal.TheVariants as refusal
 use Rattle.script_text.specs.declared.event.Event.{Event}
 use Rattle.script_text.specs.declared.said.NodeLine.{NodeLine}
 use Rattle.script_text.specs.declared.said.ObjectLine.{ObjectLine}
@@ -59,3 +65,52 @@ pub record Stand (b : Before) : Type 0 where
   pub marks_fit : All (λ mark. mark.number < 2 ^ 48) b.marks
   pub events_stand : All (IsEvent (length b.nodes)) b.events
   pub events_few : length b.events ≤ most_events
+
+-- the lanes of each node are known, and no node has too many
+pub record IsSettled (b : Before) (lanes : List (List Lane)) : Type 0 where
+  pub are : lanes ≡ map (lanes_at b) b.nodes
+  pub few : crowded b ≡ None
+
+-- they are, where any are there
+abbrev pub IsKnown : Before → List (List Lane) → Type 0
+IsKnown b lanes = 0 < length lanes → IsSettled b lanes
+
+-- of the nodes up to a place
+pub record IsSettledUpTo (b : Before) (place : ℕ) (lanes : List (List Lane)) : Type 0 where
+  pub are : lanes ≡ map (lanes_at b) (take place b.nodes)
+  pub rest : find (is_crowded b) (drop place b.nodes) ≡ crowded b
+
+-- what a line of a row reads, by what a tables file has of it
+abbrev pub as_row : Option Row → Result Said Refusal
+as_row None = Err (refusal.Cause cause.Words)
+as_row (Some row) = named row
+
+abbrev pub role_after_in : Bool → Result (Option Row) Cause → Result (Option Row) Cause
+role_after_in true (Err cause.Role) = Err cause.Any
+role_after_in any row = row
+
+abbrev pub row_read : Before → Bool → Result (Option Row) Cause → Result Said Refusal
+row_read b any says = do
+  reached ← in_order b Rows
+  row ← caused (role_after_in any says)
+  as_row row
+
+-- a line was taken
+abbrev pub added_if : Before → Option Said → Before
+added_if b None = b
+added_if b (Some said) = added b said
+
+abbrev pub TakesLine : Before → ℕ → List ℕ → Before → Type 0
+TakesLine old number line new =
+    (says : Option Said) × (line_said old number line ≡ Ok says) × (new ≡ added_if old says)
+
+abbrev pub IsLineRefusal : Refusal → Result (Option Said) Refusal → Type 0
+IsLineRefusal refusal.NoMemory found = Unit {0}
+IsLineRefusal why found = found ≡ Err why
+
+-- the lanes of nodes may be others with it
+abbrev pub moves_lanes : Said → Bool
+moves_lanes (said.Row _) = true
+moves_lanes (said.Node _) = true
+moves_lanes (said.Object _) = true
+moves_lanes _ = false

@@ -35,6 +35,11 @@ stage_rank Nodes = 2
 stage_rank Marks = 3
 stage_rank Events = 4
 
+-- no line came yet
+abbrev pub is_start : Stage → Bool
+is_start Start = true
+is_start _ = false
+
 -- the stage that a line reaches
 abbrev pub stage_of : Said → Stage
 stage_of said.Head = Rows

@@ -2,11 +2,16 @@
 //! script that is made from a number.
 #![tactic(auto)]
 
+mod early;
 mod event;
 mod fault;
+mod late;
+mod line_words;
 mod lists;
+mod node_lanes;
 mod node_row;
 mod octets;
+mod reader;
 mod said;
 mod script;
 mod words;

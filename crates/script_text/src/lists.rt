@@ -3,13 +3,15 @@ ghost use Rattle.std.specs.List.{list_any, filter};
 ghost use Rattle.key_tables.specs.Lanes.{same_lane};
 ghost use Rattle.script_text.specs.declared.said.Said.TheVariants as said;
 ghost use Rattle.script_text.specs.Parts.{same_name};
-ghost use Rattle.script_text.specs.Said.{is_again, is_same_object, is_same_mark, objects_at, standing, refusal_of_row, IsRefusal};
+ghost use Rattle.script_text.specs.Said.{is_again, is_same_object, is_same_mark, objects_at, object_at, standing, refusal_of_row, IsRefusal};
 ghost use Rattle.script_text.specs.Lists.{added, nothing_said, IsSaid};
 
 use crate::fault::Refusal;
 use crate::said::{MarkLine, NodeLine, ObjectLine, Said, Stage};
 use crate::Event;
+use group_objects::ObjectRow;
 use key_tables::{BuildFault, Row, RowList};
+use knx_base::IndAddr;
 use std::alloc::Global;
 use std::marker::Model;
 
@@ -98,6 +100,7 @@ impl Lists {
         Ok(())
     }
 
+    #[tactic(auto, using(crate::proofs::Standing::objects_still_stand))]
     fn add_object(&mut self, object: ObjectLine) -> Result<(), Refusal>
         requires said { IsSaid (length self.old.nodes) (said.Object object) }
         ensures added { OnOk result ((self.new ≡ added self.old (said.Object object)) × (standing self.old (said.Object object) ≡ None)) }
@@ -106,7 +109,7 @@ impl Lists {
         if is_object_again(&self.objects, &object) {
             return Err(Refusal::Twice);
         }
-        if count_objects(&self.objects, &object) >= MOST_OBJECTS {
+        if count_objects(&self.objects, object.node) >= MOST_OBJECTS {
             return Err(Refusal::TooMany);
         }
         self.objects.push(object)?;
@@ -156,7 +159,13 @@ fn is_node_again(nodes: &[NodeLine], node: &NodeLine) -> bool
 {
     nodes
         .iter()
-        .any(|other| node.name == other.name || node.address == other.address)
+        .any(|other| is_same_name(node, other) || node.address == other.address)
+}
+
+fn is_same_name(node: &NodeLine, other: &NodeLine) -> bool
+    ensures { result ≡ same_name node.now.name other.now.name }
+{
+    node.name.as_bytes() == other.name.as_bytes()
 }
 
 fn is_object_again(objects: &[ObjectLine], object: &ObjectLine) -> bool
@@ -167,13 +176,23 @@ fn is_object_again(objects: &[ObjectLine], object: &ObjectLine) -> bool
         .any(|other| other.node == object.node && other.row.group == object.row.group)
 }
 
-fn count_objects(objects: &[ObjectLine], object: &ObjectLine) -> usize
-    ensures { result ≡ length (objects_at object.now.node objects.now) }
+fn count_objects(objects: &[ObjectLine], node: IndAddr) -> usize
+    ensures { result ≡ length (objects_at node objects.now) }
 {
     objects
         .iter()
-        .filter(|other| other.node == object.node)
+        .filter_map(|line| object_at(node, line))
         .count()
+}
+
+pub(crate) fn object_at(node: IndAddr, line: &ObjectLine) -> Option<ObjectRow>
+    ensures { result ≡ object_at node line.now }
+{
+    if line.node == node {
+        Some(line.row)
+    } else {
+        None
+    }
 }
 
 fn is_mark_again(marks: &[MarkLine], mark: &MarkLine) -> bool
