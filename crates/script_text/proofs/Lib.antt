@@ -2,3 +2,6 @@ mod Standing
 mod LaneTexts
 mod RowTexts
 mod Places
+mod Known
+mod Whole
+mod Scripts

@@ -11,9 +11,11 @@ use Rattle.group_objects.specs.Objects.{objects_fault}
 use Rattle.script_text.specs.Parts.{IsName}
 use Rattle.script_text.specs.Script.{most_nodes, most_events, IsEvent}
 use Rattle.script_text.specs.Said.{Before, objects_at, is_again, lanes_at, is_crowded, crowded}
-use Rattle.script_text.specs.Reading.{◌>>=◌, caused, in_order, named, line_said}
+use Rattle.script_text.specs.Reading.{◌>>=◌, caused, in_order, named}
 use Rattle.script_text.specs.declared.fault.Refusal.{Refusal}
 use Rattle.script_text.specs.declared.fault.Refusal.TheVariants as refusal
+use Rattle.script_text.specs.declared.fault.ScriptFault.{ScriptFault}
+use Rattle.script_text.specs.declared.fault.ScriptFault.TheVariants as fault
 use Rattle.script_text.specs.declared.event.Event.{Event}
 use Rattle.script_text.specs.declared.said.NodeLine.{NodeLine}
 use Rattle.script_text.specs.declared.said.ObjectLine.{ObjectLine}
@@ -100,9 +102,8 @@ abbrev pub added_if : Before → Option Said → Before
 added_if b None = b
 added_if b (Some said) = added b said
 
-abbrev pub TakesLine : Before → ℕ → List ℕ → Before → Type 0
-TakesLine old number line new =
-    (says : Option Said) × (line_said old number line ≡ Ok says) × (new ≡ added_if old says)
+abbrev pub TakesSaid : Before → Result (Option Said) Refusal → Before → Type 0
+TakesSaid old found new = (says : Option Said) × (found ≡ Ok says) × (new ≡ added_if old says)
 
 abbrev pub IsLineRefusal : Refusal → Result (Option Said) Refusal → Type 0
 IsLineRefusal refusal.NoMemory found = Unit {0}
@@ -114,3 +115,7 @@ moves_lanes (said.Row _) = true
 moves_lanes (said.Node _) = true
 moves_lanes (said.Object _) = true
 moves_lanes _ = false
+
+abbrev pub IsLineFault : ScriptFault → Result (Option Said) ScriptFault → Type 0
+IsLineFault fault.NoMemory found = Unit {0}
+IsLineFault fault found = found ≡ Err fault

@@ -37,9 +37,9 @@ abbrev pub object_in : Said → Option ObjectLine
 object_in (said.Object object) = Some object
 object_in _ = None
 
-abbrev pub mark_in : Said → Option MarkLine
-mark_in (said.Mark mark) = Some mark
-mark_in _ = None
+abbrev pub mark_line_in : Said → Option MarkLine
+mark_line_in (said.Mark mark) = Some mark
+mark_line_in _ = None
 
 abbrev pub event_in : Said → Option Event
 event_in (said.Event event) = Some event
@@ -56,7 +56,7 @@ before_of lines = record {
   rows = filter_map row_in lines;
   nodes = filter_map node_in lines;
   objects = filter_map object_in lines;
-  marks = filter_map mark_in lines;
+  marks = filter_map mark_line_in lines;
   events = filter_map event_in lines;
 }
 
@@ -70,8 +70,8 @@ number_of_mark None = 0
 number_of_mark (Some mark) = mark.number
 
 -- the number that a mark line gives to the lane of a node, or 0
-abbrev pub mark_of : Before → IndAddr → Lane → ℕ
-mark_of before node lane = number_of_mark (find (is_mark_of node lane) before.marks)
+abbrev pub mark_in : List MarkLine → IndAddr → Lane → ℕ
+mark_in marks node lane = number_of_mark (find (is_mark_of node lane) marks)
 
 -- a node with its objects, and a mark for each of its lanes
 abbrev pub node_row : Before → NodeLine → NodeRow
@@ -80,7 +80,7 @@ node_row before node = record {
   address = node.address;
   next = node.next;
   objects = objects_at node.address before.objects;
-  marks = map (mark_of before node.address) (lanes_at before node);
+  marks = map (mark_in before.marks node.address) (lanes_at before node);
 }
 
 abbrev pub script_in : Before → ScriptState

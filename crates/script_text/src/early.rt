@@ -1,5 +1,6 @@
-ghost use Rattle.std.specs.Prelude.{◌≡◌, ◌<◌, ◌∷◌, ℕ, Some, Ok, length, option_map, find, position, slice_get, IfOk, MatchResult};
+ghost use Rattle.std.specs.Prelude.{◌≡◌, ◌<◌, ◌∷◌, ℕ, Some, Ok, length, option_map, find, position, slice_get, Err, IfOk, IfErr, IfSome};
 ghost use Rattle.std.specs.Option.{ok_or};
+ghost use Rattle.knx_base.specs.declared.cause.Cause.TheVariants as cause;
 ghost use Rattle.text_lines.specs.Lines.{line_of};
 ghost use Rattle.key_tables.specs.Text.{line_says};
 ghost use Rattle.script_text.specs.Lists.{row_read, IsSaid};
@@ -58,14 +59,14 @@ impl Lists {
     }
 
     // The node of a name, and its place.
-    #[tactic(auto, using(crate::proofs::Places::found_at))]
     pub(crate) fn placed(&self, name: &str) -> Result<(usize, NodeLine), Cause>
-        ensures node { MatchResult result (λ found. node_named self.now name.now ≡ Ok found.1) (λ why. node_named self.now name.now ≡ Err why) }
+        ensures node { IfOk result (λ found. node_named self.now name.now ≡ Ok found.1) }
+        ensures none { IfErr result (λ why. node_named self.now name.now ≡ Err why) }
         ensures place { IfOk result (λ found. slice_get self.now.nodes found.0 ≡ Some found.1) }
     {
-        match place_of(&self.nodes, name) {
-            Some(place) => Ok((place, self.nodes[place])),
-            None => Err(Cause::Name),
+        match placed_in(&self.nodes, name) {
+            Ok(found) => Ok(found),
+            Err(cause) => Err(cause),
         }
     }
 
@@ -76,8 +77,20 @@ impl Lists {
     }
 }
 
+fn placed_in(nodes: &[NodeLine], name: &str) -> Result<(usize, NodeLine), Cause>
+    ensures node { IfOk result (λ found. ok_or (find (λ node. same_name name.now node.name) nodes.now) cause.Name ≡ Ok found.1) }
+    ensures none { IfErr result (λ why. ok_or (find (λ node. same_name name.now node.name) nodes.now) cause.Name ≡ Err why) }
+    ensures place { IfOk result (λ found. slice_get nodes.now found.0 ≡ Some found.1) }
+{
+    match place_of(nodes, name) {
+        Some(place) => Ok((place, nodes[place])),
+        None => Err(Cause::Name),
+    }
+}
+
 fn place_of(nodes: &[NodeLine], name: &str) -> Option<usize>
-    ensures { result ≡ position (λ node. same_name name.now node.name) nodes.now }
+    ensures place { result ≡ position (λ node. same_name name.now node.name) nodes.now }
+    ensures in_range { IfSome result (λ place. place < length nodes.now) }
 {
     nodes.iter().position(|node| is_named(node, name))
 }

@@ -1,9 +1,10 @@
-ghost use Rattle.std.specs.Prelude.{◌≡◌, ◌≢◌, ◌∷◌, ◌<◌, ℕ, None, [], length, slice_get, Some, Ok, Err, tt, IfOk, IfErr, OnOk};
+ghost use Rattle.std.specs.Prelude.{◌≡◌, ◌≢◌, ◌∷◌, ◌<◌, ℕ, None, [], length, slice_get, Some, Ok, Err, IfOk, IfErr, OnOk};
 ghost use Rattle.text_lines.specs.Lines.{line_of};
-ghost use Rattle.script_text.specs.Lists.{added, moves_lanes, nothing_said, IsKnown, IsSaid, IsSettled, IsLineRefusal, TakesLine};
+ghost use Rattle.script_text.specs.Lists.{added, moves_lanes, nothing_said, IsKnown, IsSaid, IsSettled, IsLineRefusal, TakesSaid};
 ghost use Rattle.script_text.specs.Said.{lanes_at, standing, IsRefusal};
-ghost use Rattle.script_text.specs.Reading.{kind_said, late_said, line_said, lane_of_node, mark_said, settled_by, words_said};
+ghost use Rattle.script_text.specs.Reading.{kind_said, late_said, line_said, lane_of_node, mark_said, said_in, settled_by, words_said};
 
+use crate::Event;
 use crate::early::{
     read_group_line, read_head, read_node, read_object, read_role_line, read_tool_line,
     refuse_head,
@@ -38,20 +39,40 @@ impl Reader {
     }
 
     // Takes what a line says.
+    #[tactic(auto, unfolding(crate::specs::Reading::line_said))]
     pub(crate) fn take(&mut self, alloc: Global, number: u64, line: &[u8]) -> Result<(), Refusal>
         requires known { IsKnown self.old.lists self.old.lanes.items }
         ensures known { OnOk result (IsKnown self.new.lists self.new.lanes.items) }
-        ensures taken { OnOk result (TakesLine self.old.lists number line.now self.new.lists) }
+        ensures taken { OnOk result (TakesSaid self.old.lists (line_said self.old.lists number line.now) self.new.lists) }
         ensures fault { IfErr result (λ why. IsLineRefusal why (line_said self.old.lists number line.now)) }
     {
-        let Some(mut words) = judge_line(line)? else {
-            return Ok(());
-        };
-        let said = self.read_words(alloc, number, line, &mut words)?;
-        self.add(said)
+        match judge_line(line) {
+            Ok(Some(mut words)) => self.take_words(alloc, number, line, &mut words),
+            Ok(None) => Ok(()),
+            Err(cause) => Err(Refusal::Cause(cause)),
+        }
     }
 
-    // The lanes of before may be others after it.
+    #[tactic(auto, using(crate::proofs::Known::takes_said))]
+    fn take_words(
+        &mut self,
+        alloc: Global,
+        number: u64,
+        line: &[u8],
+        words: &mut Words<'_>,
+    ) -> Result<(), Refusal>
+        requires line { line_of line.now ≡ Ok (Some words.old) }
+        requires known { IsKnown self.old.lists self.old.lanes.items }
+        ensures known { OnOk result (IsKnown self.new.lists self.new.lanes.items) }
+        ensures taken { OnOk result (TakesSaid self.old.lists (said_in self.old.lists number (Some words.old)) self.new.lists) }
+        ensures fault { IfErr result (λ why. IsLineRefusal why (said_in self.old.lists number (Some words.old))) }
+    {
+        match self.read_words(alloc, number, line, words) {
+            Ok(said) => self.add(said),
+            Err(why) => Err(why),
+        }
+    }
+
     fn add(&mut self, said: Said) -> Result<(), Refusal>
         requires said { IsSaid (length self.old.lists.nodes) said }
         requires known { IsKnown self.old.lists self.old.lanes.items }
@@ -59,10 +80,20 @@ impl Reader {
         ensures added { OnOk result ((self.new.lists ≡ added self.old.lists said) × (standing self.old.lists said ≡ None)) }
         ensures fault { IfErr result (λ why. IsRefusal why (standing self.old.lists said)) }
     {
+        self.forget_lanes(&said);
+        self.lists.add(said)
+    }
+
+    // The lanes of before may be others with it.
+    #[tactic(auto, using(crate::proofs::Known::still_known, crate::proofs::Known::none_known))]
+    fn forget_lanes(&mut self, said: &Said)
+        requires known { IsKnown self.old.lists self.old.lanes.items }
+        ensures same { self.new.lists ≡ self.old.lists }
+        ensures known { IsKnown (added self.old.lists said.now) self.new.lanes.items }
+    {
         if said.moves_lanes() {
             self.lanes.clear();
         }
-        self.lists.add(said)
     }
 
     fn read_words(
@@ -88,6 +119,7 @@ impl Reader {
         }
     }
 
+    #[tactic(auto, unfolding(crate::specs::Reading::kind_said))]
     fn read_kind(
         &mut self,
         alloc: Global,
@@ -134,7 +166,8 @@ impl Reader {
         if kind == "mark" {
             return self.read_mark(settled, words);
         }
-        Ok(Said::Event(read_event(&self.lists, settled, kind, words)?))
+        let event: Event = read_event(&self.lists, settled, kind, words)?;
+        Ok(Said::Event(event))
     }
 
     // No node has too many lanes.

@@ -3,4 +3,4 @@ use Rattle.script_text.specs.Lists.{IsSettledUpTo}
 use Rattle.script_text.proofs.node_lanes.all_lanes.Given as goal
 
 abbrev pub invariant-loop-index : goal.invariant-loop-index
-invariant-loop-index l = IsSettledUpTo l.lists.now l.index l.all.items
+invariant-loop-index l = IsSettledUpTo l.lists l.index l.all.items
