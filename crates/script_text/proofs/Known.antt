@@ -28,6 +28,6 @@ pub takes_said : (old new : Before) (read : Result Said Refusal) (line : Said) (
 takes_said old new read line (Err why) is done = tt
 takes_said old new read line (Ok tt) is done =
     let stays : (read >>= λ line. stands (standing old line) line) ≡ Ok (Some line) =
-          ap (λ (read : Result Said Refusal). read >>= λ line. stands (standing old line) line) is
-          ∙ ap (λ why. stands why line) done.1 in
+    ap (λ (read : Result Said Refusal). read >>= λ line. stands (standing old line) line) is
+    ∙ ap (λ why. stands why line) done.1 in
     (Some line, stays, done.0)

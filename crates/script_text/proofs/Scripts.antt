@@ -1,5 +1,5 @@
 -- Reading line after line: what is left of the text.
-use Rattle.std.proofs.Common.{◌≡◌, ℕ, ◌+◌, List, [], ◌∷◌, ◌++◌, Option, Some, None, Ok, Err, refl, sym, ap, ◌∙◌, append-nil}
+use Rattle.std.proofs.Common.{◌≡◌, ℕ, ◌+◌, List, [], ◌∷◌, ◌++◌, Option, Some, None, Ok, Err, refl, sym, ap, subst, ◌∙◌, append-nil}
 use Rattle.std.specs.Prelude.{Result}
 use Rattle.std.specs.Option.{option_to_list}
 use Rattle.std.specs.List.{filter_map}
@@ -11,6 +11,7 @@ use Rattle.script_text.specs.Said.{Before, stage_of}
 use Rattle.script_text.specs.Lists.{lists, nothing_said, added, added_if, IsKnown, IsLineFault, TakesSaid}
 use Rattle.script_text.specs.Reading.{◌>>=◌, at_line, line_said}
 use Rattle.script_text.specs.Script.{ScriptState}
+use Rattle.script_text.proofs.Known.{none_known}
 use Rattle.script_text.specs.Text.{row_in, node_in, object_in, mark_line_in, event_in, last_stage, before_of, ended, script_after, script_of, IsTextFault}
 use Rattle.script_text.specs.declared.fault.Refusal.{Refusal}
 use Rattle.script_text.specs.declared.fault.ScriptFault.{ScriptFault}
@@ -32,15 +33,29 @@ parts : (before : List Said) (line : Said) → before_of (before ++ line ∷ [])
     (filter_map mark_line_in before ++ filter_map mark_line_in (line ∷ []))
     (filter_map event_in before ++ filter_map event_in (line ∷ []))
 parts before line =
-    rw (last_is Start before line, filter_map-append row_in before (line ∷ []), filter_map-append node_in before (line ∷ []),
-        filter_map-append object_in before (line ∷ []), filter_map-append mark_line_in before (line ∷ []),
-        filter_map-append event_in before (line ∷ [])) refl
+    rw (
+      last_is Start before line,
+      filter_map-append row_in before (line ∷ []),
+      filter_map-append node_in before (line ∷ []),
+      filter_map-append object_in before (line ∷ []),
+      filter_map-append mark_line_in before (line ∷ []),
+      filter_map-append event_in before (line ∷ []),
+    ) refl
 
 module _ (before : List Said) where
+  rows_nil : filter_map row_in before ++ [] ≡ filter_map row_in before
   rows_nil = append-nil (filter_map row_in before)
+
+  nodes_nil : filter_map node_in before ++ [] ≡ filter_map node_in before
   nodes_nil = append-nil (filter_map node_in before)
+
+  objects_nil : filter_map object_in before ++ [] ≡ filter_map object_in before
   objects_nil = append-nil (filter_map object_in before)
+
+  marks_nil : filter_map mark_line_in before ++ [] ≡ filter_map mark_line_in before
   marks_nil = append-nil (filter_map mark_line_in before)
+
+  events_nil : filter_map event_in before ++ [] ≡ filter_map event_in before
   events_nil = append-nil (filter_map event_in before)
 
 one_more : (before : List Said) (line : Said) → added (before_of before) line ≡ before_of (before ++ line ∷ [])
@@ -72,7 +87,6 @@ begun text = record { before = []; is = refl; goes_on = opened text }
 module _ (text : List ℕ) (b : Before) (given number : ℕ) (line : List ℕ) (left after : List (List ℕ))
     (read : HasRead text b given left) (comes : left ≡ line ∷ after) (counted : number ≡ given + 1) where
   rest_of : Result (Option Said) ScriptFault → Result ScriptState ScriptFault
-  unfolding rest_of
   rest_of found = found >>= λ says. script_after (read.before ++ option_to_list says) (given + 1) after
 
   moved : line_said (before_of read.before) (given + 1) line ≡ line_said b number line
@@ -109,3 +123,11 @@ all_read text b given left read none = read.goes_on ∙ ap (script_after read.be
 pub record IsReadUpTo (text : List ℕ) (b : Before) (lanes : List (List Lane)) (left : LinesState) : Type 0 where
   pub read : HasRead text b left.given left.left
   pub known : IsKnown b lanes
+
+pub begins : (text : List ℕ) (b : Before) (lanes : List (List Lane)) (left : LinesState) → b ≡ nothing_said → lanes ≡ []
+    → left ≡ record { given = 0; left = lines text } → IsReadUpTo text b lanes left
+begins text b lanes left nothing none all = record {
+  read = subst (λ (left : LinesState). HasRead text b left.given left.left) (sym all)
+      (subst (λ b. HasRead text b 0 (lines text)) (sym nothing) (begun text));
+  known = subst (IsKnown b) (sym none) (none_known b);
+}

@@ -5,7 +5,13 @@ use Rattle.std.specs.List.{list_any, filter_map}
 use Rattle.std.proofs.lemmas.Bool.{leb-false, le-ltb, eqb-true}
 use Rattle.std.proofs.lemmas.List.{length-append}
 use Rattle.std.proofs.lemmas.List.Elements.{filter_map-append}
+use Rattle.std.proofs.lemmas.List.Folds.{list_any-append}
+use Rattle.std.specs.Option.{option_or}
 use Rattle.knx_base.specs.declared.address.IndAddr.{IndAddr}
+use Rattle.key_tables.specs.declared.types.Row.{Row}
+use Rattle.key_tables.specs.First.{first_of}
+use Rattle.key_tables.specs.Build.{build_fault, row_fault}
+use Rattle.key_tables.specs.Lanes.{is_any}
 use Rattle.group_objects.specs.declared.row.ObjectRow.{ObjectRow}
 use Rattle.group_objects.specs.declared.objects.ObjectsFault.TheVariants as fault
 use Rattle.group_objects.specs.Objects.{first_twice, is_of, objects_fault, most_rows}
@@ -18,7 +24,7 @@ use Rattle.script_text.specs.declared.said.ObjectLine.{ObjectLine}
 module _ (before rows : List ObjectRow) (row new : ObjectRow) where
   goes_on : (b : Bool)
       → (first_twice (before ++ row ∷ []) rows ≡ None → list_any (is_of new.group) ((before ++ row ∷ []) ++ rows) ≡ false
-          → first_twice (before ++ row ∷ []) (rows ++ new ∷ []) ≡ None)
+      → first_twice (before ++ row ∷ []) (rows ++ new ∷ []) ≡ None)
       → cond b (Some (length before)) (first_twice (before ++ row ∷ []) rows) ≡ None
       → list_any (is_of new.group) (before ++ row ∷ rows) ≡ false
       → cond b (Some (length before)) (first_twice (before ++ row ∷ []) (rows ++ new ∷ [])) ≡ None
@@ -45,7 +51,7 @@ one_more rows new none apart few =
     let below = leb-false most_rows (length rows) few in
     let size = length-append rows (new ∷ []) in
     let fits : nat_lt most_rows (length (rows ++ new ∷ [])) ≡ false =
-          le-ltb most_rows (length (rows ++ new ∷ [])) (omega (arith, below, size)) in
+    le-ltb most_rows (length (rows ++ new ∷ [])) (omega (arith, below, size)) in
     rw (fits, still_apart [] rows new (none_twice (nat_lt most_rows (length rows)) (first_twice [] rows) none) apart) refl
 
 -- ---- an object more
@@ -75,7 +81,7 @@ module _ (lines : List ObjectLine) (line : ObjectLine) (stand : (node : IndAddr)
   stands_at node true is =
       let same : line.node.0 ≡ node.0 = eqb-true line.node.0 node.0 is in
       let own : objects_fault (objects_at node lines ++ line.row ∷ []) ≡ None =
-            subst (λ n. objects_fault (objects_at (record { 0 = n }) lines ++ line.row ∷ []) ≡ None) same own_stand in
+      subst (λ n. objects_fault (objects_at (record { 0 = n }) lines ++ line.row ∷ []) ≡ None) same own_stand in
       rw (is) own
   stands_at node false is = let own = stand node in rw (is, append-nil (objects_at node lines)) own
 
@@ -86,3 +92,37 @@ pub objects_still_stand : (lines : List ObjectLine) (line : ObjectLine)
 objects_still_stand lines line stand apart few node =
     ap objects_fault (filter_map-append (object_at node) lines (line ∷ []))
     ∙ stands_at lines line stand apart few node (line.node.0 == node.0) refl
+
+-- ---- a row of a tables file more
+
+module _ {A B : Type 0} (test : List A → A → Option B) where
+  both : (first : Option B) (later now : Option B) → option_or first later ≡ None → (later ≡ None → now ≡ None) → option_or first now ≡ None
+  both None later now none goes = goes none
+  both (Some b) later now none goes = absurd cc
+
+  none_more : (before xs : List A) (x : A) → first_of test before xs ≡ None → test (before ++ xs) x ≡ None
+      → first_of test before (xs ++ x ∷ []) ≡ None
+  none_more before [] x none new =
+      let here : test before x ≡ None = ap (λ xs. test xs x) (sym (append-nil before)) ∙ new in rw (here) refl
+  none_more before (y ∷ ys) x none new =
+      both (test before y) (first_of test (before ++ y ∷ []) ys) (first_of test (before ++ y ∷ []) (ys ++ x ∷ [])) none
+      (λ later. none_more (before ++ y ∷ []) ys x later (ap (λ xs. test xs x) (append_assoc before (y ∷ []) ys) ∙ new))
+
+pub none_stand : build_fault [] ≡ None
+unfolding build_fault
+none_stand = refl
+
+rows_stand : (rows : List Row) (row : Row) → build_fault rows ≡ None → row_fault rows row ≡ None
+    → build_fault (rows ++ row ∷ []) ≡ None
+unfolding build_fault
+rows_stand rows row stand new = none_more row_fault [] rows row stand new
+
+pub rows_still_stand : (rows now : List Row) (row : Row) → now ≡ rows ++ row ∷ [] → build_fault rows ≡ None
+    → row_fault rows row ≡ None → build_fault now ≡ None
+rows_still_stand rows now row is stand new = ap build_fault is ∙ rows_stand rows row stand new
+
+pub rows_still_named : (rows now : List Row) (row : Row) → now ≡ rows ++ row ∷ [] → list_any is_any rows ≡ false
+    → is_any row ≡ false → list_any is_any now ≡ false
+rows_still_named rows now row is named new =
+    let both : list_any is_any (rows ++ row ∷ []) ≡ false = list_any-append is_any rows (row ∷ []) ∙ rw (named, new) refl in
+    ap (list_any is_any) is ∙ both

@@ -2,12 +2,11 @@
 use Rattle.std.proofs.Common.{◌≡◌, ℕ, ◌<◌, ◌≤◌, ◌^◌, Bool, true, false, List, [], ◌∷◌, length, map, find, Option, Some, None, slice_index_or, cond, refl, sym, ap, subst, ◌∙◌, arith}
 use Rattle.std.specs.Prelude.{◌==◌, ◌||◌, nat_lt, IfSome}
 use Rattle.std.specs.List.{filter_map, All, AllPairs}
-use Rattle.std.proofs.lemmas.Bool.{ltb-false, eqb-false, eq-eqb, true≢false}
+use Rattle.std.proofs.lemmas.Bool.{ltb-false, eq-eqb, true≢false}
 use Rattle.std.proofs.lemmas.List.{length-map, get_or-map}
 use Rattle.std.proofs.lemmas.List.Elements.{All-nil, All-cons, All-head, All-tail, All-map}
 use Rattle.knx_base.specs.declared.address.IndAddr.{IndAddr}
 use Rattle.key_tables.specs.declared.types.Lane.{Lane}
-use Rattle.key_tables.specs.Build.{build_fault}
 use Rattle.group_objects.specs.declared.row.ObjectRow.{ObjectRow}
 use Rattle.script_text.specs.Parts.{same_name}
 use Rattle.script_text.specs.Script.{IsEvent, IsNode, IsScript, AreTwoNodes, most_lanes}
@@ -100,12 +99,18 @@ neither : (a b : Bool) → a || b ≡ false → (a ≡ false) × (b ≡ false)
 neither true b none = absurd cc
 neither false b none = (refl, none)
 
+other_name : (name other : List ℕ) → same_name other name ≡ false → name ≡ other → ⊥
+other_name name other apart same = true≢false (sym (same_self other) ∙ ap (same_name other) (sym same) ∙ apart)
+
+other_number : (n m : ℕ) → m == n ≡ false → n ≡ m → ⊥
+other_number n m apart same = true≢false (sym (eq-eqb m n (sym same)) ∙ apart)
+
 are_two : (before : Before) (node other : NodeLine) → is_again other node ≡ false → AreTwoNodes (node_row before node) (node_row before other)
 are_two before node other apart =
     let parts = neither (same_name other.name node.name) (other.address.0 == node.address.0) apart in
     record {
-      names = λ same. true≢false (sym (same_self other.name) ∙ ap (same_name other.name) (sym same) ∙ parts.0);
-      addresses = λ same. eqb-false other.address.0 node.address.0 parts.1 (sym same);
+      names = other_name node.name other.name parts.0;
+      addresses = other_number node.address.0 other.address.0 parts.1;
     }
 
 two_nodes : (before : Before) (nodes : List NodeLine) → AllPairs (λ node later. is_again later node ≡ false) nodes
@@ -120,11 +125,11 @@ two_nodes before (node ∷ nodes) apart i j d below within =
     (subst (λ row. AreTwoNodes (node_row before (slice_index_or all i node)) row) (sym second)
     (are_two before (slice_index_or all i node) (slice_index_or all j node) (apart i j node below inside)))
 
-pub is_script : (before : Before) → Stand before → build_fault before.rows ≡ None → crowded before ≡ None
+pub is_script : (before : Before) → Stand before → crowded before ≡ None
     → IsScript before.rows (map (node_row before) before.nodes) before.events
-is_script before stand rows few = record {
+is_script before stand few = record {
   named = stand.named;
-  stand = rows;
+  stand = stand.stand;
   nodes_stand = all_nodes before stand few;
   nodes_once = two_nodes before before.nodes stand.nodes_once;
   nodes_few = subst (λ n. n ≤ 32) (sym (length-map before.nodes (node_row before))) stand.nodes_few;

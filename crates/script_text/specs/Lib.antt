@@ -6,3 +6,4 @@ pub mod Said
 pub mod Lists
 pub mod Reading
 pub mod Text
+pub mod Made

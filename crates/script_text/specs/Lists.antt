@@ -6,6 +6,7 @@ use Rattle.knx_base.specs.declared.cause.Cause.{Cause}
 use Rattle.knx_base.specs.declared.cause.Cause.TheVariants as cause
 use Rattle.key_tables.specs.declared.types.Lane.{Lane}
 use Rattle.key_tables.specs.declared.types.Row.{Row}
+use Rattle.key_tables.specs.Build.{build_fault}
 use Rattle.key_tables.specs.Lanes.{is_any}
 use Rattle.group_objects.specs.Objects.{objects_fault}
 use Rattle.script_text.specs.Parts.{IsName}
@@ -59,6 +60,7 @@ IsSaid nodes (said.Event event) = IsEvent nodes event
 -- what was said keeps the rules of a script, but for lanes and marks
 pub record Stand (b : Before) : Type 0 where
   pub named : list_any is_any b.rows ≡ false
+  pub stand : build_fault b.rows ≡ None
   pub nodes_are : All IsNodeLine b.nodes
   pub nodes_once : AllPairs (λ node later. is_again later node ≡ false) b.nodes
   pub nodes_few : length b.nodes ≤ most_nodes

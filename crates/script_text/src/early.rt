@@ -198,11 +198,7 @@ fn named(row: Row) -> Result<Said, Refusal>
     }
 }
 
-pub(crate) fn read_node(
-    lists: &Lists,
-    number: u64,
-    words: &mut Words<'_>,
-) -> Result<Said, Refusal>
+pub(crate) fn read_node(lists: &Lists, number: u64, words: &mut Words<'_>) -> Result<Said, Refusal>
     ensures said { result ≡ node_said lists.now number words.old }
     ensures ranges { IfOk result (IsSaid (length lists.now.nodes)) }
 {

@@ -6,9 +6,9 @@ ghost use Rattle.script_text.specs.Parts.{same_name};
 ghost use Rattle.script_text.specs.Said.{is_again, is_same_object, is_same_mark, objects_at, object_at, standing, refusal_of_row, IsRefusal};
 ghost use Rattle.script_text.specs.Lists.{added, nothing_said, IsSaid};
 
+use crate::Event;
 use crate::fault::Refusal;
 use crate::said::{MarkLine, NodeLine, ObjectLine, Said, Stage};
-use crate::Event;
 use group_objects::ObjectRow;
 use key_tables::{BuildFault, Row, RowList};
 use knx_base::IndAddr;
@@ -44,6 +44,7 @@ impl Model for Lists {
 }
 
 impl Lists {
+    #[tactic(auto, using(crate::proofs::Standing::none_stand))]
     pub(crate) fn new(alloc: Global) -> Lists
         ensures { result ≡ nothing_said }
     {
@@ -79,9 +80,13 @@ impl Lists {
         ensures added { OnOk result ((self.new ≡ added self.old (said.Row row)) × (standing self.old (said.Row row) ≡ None)) }
         ensures fault { IfErr result (λ why. IsRefusal why (standing self.old (said.Row row))) }
     {
-        self.rows.add(row).map_err(refusal_of_row)?;
-        self.stage = Stage::Rows;
-        Ok(())
+        match self.rows.add(row) {
+            Ok(()) => {
+                self.stage = Stage::Rows;
+                Ok(())
+            },
+            Err(fault) => Err(refusal_of_row(fault)),
+        }
     }
 
     fn add_node(&mut self, node: NodeLine) -> Result<(), Refusal>
@@ -157,9 +162,7 @@ fn refusal_of_row(fault: BuildFault) -> Refusal
 fn is_node_again(nodes: &[NodeLine], node: &NodeLine) -> bool
     ensures { result ≡ list_any (is_again node.now) nodes.now }
 {
-    nodes
-        .iter()
-        .any(|other| is_same_name(node, other) || node.address == other.address)
+    nodes.iter().any(|other| is_same_name(node, other) || node.address == other.address)
 }
 
 fn is_same_name(node: &NodeLine, other: &NodeLine) -> bool
@@ -171,9 +174,7 @@ fn is_same_name(node: &NodeLine, other: &NodeLine) -> bool
 fn is_object_again(objects: &[ObjectLine], object: &ObjectLine) -> bool
     ensures { result ≡ list_any (is_same_object object.now) objects.now }
 {
-    objects
-        .iter()
-        .any(|other| other.node == object.node && other.row.group == object.row.group)
+    objects.iter().any(|other| other.node == object.node && other.row.group == object.row.group)
 }
 
 fn count_objects(objects: &[ObjectLine], node: IndAddr) -> usize

@@ -6,8 +6,7 @@ ghost use Rattle.script_text.specs.Reading.{kind_said, late_said, line_said, lan
 
 use crate::Event;
 use crate::early::{
-    read_group_line, read_head, read_node, read_object, read_role_line, read_tool_line,
-    refuse_head,
+    read_group_line, read_head, read_node, read_object, read_role_line, read_tool_line, refuse_head,
 };
 use crate::fault::Refusal;
 use crate::late::read_event;
@@ -184,7 +183,11 @@ impl Reader {
         Ok(())
     }
 
-    fn read_mark(&self, settled: Result<(), Refusal>, words: &mut Words<'_>) -> Result<Said, Refusal>
+    fn read_mark(
+        &self,
+        settled: Result<(), Refusal>,
+        words: &mut Words<'_>,
+    ) -> Result<Said, Refusal>
         requires settled { settled ≡ Ok tt → IsSettled self.now.lists self.now.lanes.items }
         ensures said { result ≡ mark_said self.now.lists settled words.old }
         ensures ranges { IfOk result (IsSaid (length self.now.lists.nodes)) }

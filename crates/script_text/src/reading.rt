@@ -1,4 +1,4 @@
-ghost use Rattle.std.specs.Prelude.{◌≡◌, Ok, IfOk, IfErr, OnOk, map, find, option_map};
+ghost use Rattle.std.specs.Prelude.{◌≡◌, ℕ, Ok, IfOk, IfErr, OnOk, map, find, option_map};
 ghost use Rattle.script_text.specs.Lists.{IsKnown, IsSettled, IsLineFault, TakesSaid};
 ghost use Rattle.script_text.specs.Said.{fault_at, lanes_at};
 ghost use Rattle.script_text.specs.Reading.{at_line, line_said};
@@ -20,6 +20,7 @@ use text_lines::Lines;
 /// A line is refused as a line of text, then for an unknown first word or a wrong number of words, then for its kind after
 /// the kinds before it, then for its first bad word from left to right, then because it says again what a line before it
 /// says, and then because there are too many of its kind.
+#[tactic(auto, using(crate::proofs::Scripts::begins, crate::proofs::Scripts::line_refused, crate::proofs::Scripts::all_read))]
 pub fn read_script(alloc: Global, bytes: &[u8]) -> Result<Script, ScriptFault>
     ensures script { IfOk result (λ script. script_of bytes.now ≡ Ok script) }
     ensures fault { IfErr result (λ fault. IsTextFault fault (script_of bytes.now)) }
@@ -32,7 +33,12 @@ pub fn read_script(alloc: Global, bytes: &[u8]) -> Result<Script, ScriptFault>
     finish(reader, alloc)
 }
 
-fn take_line(reader: &mut Reader, alloc: Global, number: u64, line: &[u8]) -> Result<(), ScriptFault>
+fn take_line(
+    reader: &mut Reader,
+    alloc: Global,
+    number: u64,
+    line: &[u8],
+) -> Result<(), ScriptFault>
     requires known { IsKnown reader.old.lists reader.old.lanes.items }
     ensures known { OnOk result (IsKnown reader.new.lists reader.new.lanes.items) }
     ensures taken { OnOk result (TakesSaid reader.old.lists (line_said reader.old.lists number line.now) reader.new.lists) }
@@ -77,11 +83,7 @@ fn finish(mut reader: Reader, alloc: Global) -> Result<Script, ScriptFault>
 }
 
 // The nodes with their objects and their marks.
-fn node_rows(
-    alloc: Global,
-    lists: &Lists,
-    lanes: &[LaneList],
-) -> Result<Vec<NodeRow>, AllocError>
+fn node_rows(alloc: Global, lists: &Lists, lanes: &[LaneList]) -> Result<Vec<NodeRow>, AllocError>
     requires settled { IsSettled lists.now lanes.now }
     ensures rows { IfOk result (λ rows. rows.items ≡ map (node_row lists.now) lists.now.nodes) }
 {
@@ -132,8 +134,14 @@ fn mark_in(marks: &[MarkLine], node: IndAddr, lane: Lane) -> Number48
 {
     match find_mark(marks, node, lane) {
         Some(mark) => mark.number,
-        None => Number48::from_bytes([0; 6]),
+        None => zero(),
     }
+}
+
+fn zero() -> Number48
+    ensures { result ≡ 0 }
+{
+    Number48::new(0).unwrap()
 }
 
 fn find_mark(marks: &[MarkLine], node: IndAddr, lane: Lane) -> Option<&MarkLine>

@@ -32,7 +32,6 @@ impl Script {
     ghost use Rattle.script_text.specs.Text.{node_row, script_in};
 
     // The script of what was said, where the nodes are its nodes.
-    #[tactic(auto, using(crate::proofs::Whole::is_script))]
     pub(crate) fn of_lists(lists: Lists, nodes: Vec<NodeRow>) -> Script
         requires nodes { nodes.items ≡ map (node_row lists) lists.nodes }
         requires few { crowded lists ≡ None }

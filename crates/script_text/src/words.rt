@@ -119,7 +119,10 @@ fn read_tool_lane(two: &str) -> Result<Lane, Cause>
     ensures { result ≡ tool_lane two.now }
 {
     match two.split_once(':') {
-        Some((device, sender)) => Ok(Lane::Tool(read_lane_device(device)?, read_lane_device(sender)?)),
+        Some((device, sender)) => Ok(Lane::Tool(
+            read_lane_device(device)?,
+            read_lane_device(sender)?,
+        )),
         None => Err(Cause::Lane),
     }
 }
