@@ -1,0 +1,7 @@
+mod Standing
+mod LaneTexts
+mod RowTexts
+mod Places
+mod Known
+mod Whole
+mod Scripts

@@ -12,6 +12,10 @@ pub record HasLength (low high : ℕ) (octets : List ℕ) : Type 0 where
 abbrev pub is_name_octet : ℕ → Bool
 is_name_octet octet = nat_le 97 octet && nat_le octet 122 || nat_le 48 octet && nat_le octet 57 || octet == 95
 
+-- 1 to 16 such octets
+abbrev pub is_name : List ℕ → Bool
+is_name text = nat_le 1 (length text) && nat_le (length text) 16 && list_all is_name_octet text
+
 pub record IsName (text : List ℕ) : Type 0 where
   pub fits : HasLength 1 16 text
   pub letters : list_all is_name_octet text ≡ true

@@ -9,7 +9,7 @@ use Rattle.key_tables.specs.Build.{build_fault}
 use Rattle.key_tables.specs.Lanes.{is_any, lanes_of}
 use Rattle.group_objects.specs.declared.row.ObjectRow.{ObjectRow}
 use Rattle.group_objects.specs.Objects.{objects_fault}
-use Rattle.script_text.specs.Parts.{HasLength, IsName, same_name}
+use Rattle.script_text.specs.Parts.{HasLength, IsName}
 use Rattle.script_text.specs.declared.node_row.NodeRow.{NodeRow}
 use Rattle.script_text.specs.declared.event.Event.{Event}
 use Rattle.script_text.specs.declared.event.Event.TheVariants as event
@@ -58,7 +58,7 @@ pub record IsNode (rows : List Row) (node : NodeRow) : Type 0 where
 
 -- two nodes have names and addresses of their own
 pub record AreTwoNodes (node other : NodeRow) : Type 0 where
-  pub names : same_name node.name other.name ≡ false
+  pub names : node.name ≢ other.name
   pub addresses : node.address.0 ≢ other.address.0
 
 -- ---- events

@@ -8,7 +8,7 @@ use std::marker::Model;
 /// The application PDU of a tool: 2 to 16 octets. A contract sees these.
 #[derive(Clone, Copy, Debug, PartialEq, Eq)]
 pub struct ToolApdu {
-    octets: Octets<16>,
+    pub(crate) octets: Octets<16>,
 }
 
 impl Model for ToolApdu {
@@ -51,7 +51,7 @@ impl ToolApdu {
 /// The octets of a frame that someone puts on the air, 1 to 265. A contract sees these.
 #[derive(Clone, Copy, Debug, PartialEq, Eq)]
 pub struct RawFrame {
-    octets: Octets<265>,
+    pub(crate) octets: Octets<265>,
 }
 
 impl Model for RawFrame {

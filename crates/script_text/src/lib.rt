@@ -2,11 +2,23 @@
 //! script that is made from a number.
 #![tactic(auto)]
 
+mod early;
 mod event;
+mod fault;
+mod late;
+mod line_words;
+mod lists;
+mod node_lanes;
 mod node_row;
 mod octets;
+mod reader;
+mod reading;
+mod said;
 mod script;
+mod words;
 
 pub use event::{Event, RawFrame, ToolApdu};
+pub use fault::ScriptFault;
 pub use node_row::{Marks, Name, NodeRow, ObjectRows};
+pub use reading::read_script;
 pub use script::Script;

@@ -8,7 +8,7 @@ use std::marker::Model;
 /// The name of a node: 1 to 16 of the letters a to z, the digits and `_`. A contract sees its octets.
 #[derive(Clone, Copy, Debug, PartialEq, Eq)]
 pub struct Name {
-    octets: Octets<16>,
+    pub(crate) octets: Octets<16>,
 }
 
 impl Model for Name {

@@ -1,5 +1,6 @@
-ghost use Rattle.std.specs.Prelude.{◌≡◌};
+ghost use Rattle.std.specs.Prelude.{◌≡◌, None, map};
 
+use crate::lists::Lists;
 use crate::{Event, NodeRow};
 use key_tables::{Row, RowList};
 use std::marker::Model;
@@ -27,6 +28,21 @@ impl Model for Script {
 
 impl Script {
     ghost use Rattle.script_text.specs.Script.{IsScript};
+    ghost use Rattle.script_text.specs.Said.{crowded};
+    ghost use Rattle.script_text.specs.Text.{node_row, script_in};
+
+    // The script of what was said, where the nodes are its nodes.
+    pub(crate) fn of_lists(lists: Lists, nodes: Vec<NodeRow>) -> Script
+        requires nodes { nodes.items ≡ map (node_row lists) lists.nodes }
+        requires few { crowded lists ≡ None }
+        ensures { result ≡ script_in lists }
+    {
+        Script {
+            rows: lists.rows,
+            nodes,
+            events: lists.events,
+        }
+    }
 
     /// The rows of keys and roles.
     pub fn rows(&self) -> &[Row]
