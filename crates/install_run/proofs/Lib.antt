@@ -1,2 +1,3 @@
 mod Sounding
 mod Turning
+mod Ending

@@ -7,3 +7,5 @@ pub mod Slot
 pub mod Taking
 pub mod Place
 pub mod World
+pub mod Report
+pub mod Printing

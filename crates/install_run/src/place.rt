@@ -5,6 +5,8 @@ ghost use Rattle.install_run.specs.Counts.{HasStopCause};
 ghost use Rattle.install_run.specs.Runs.{place_of, entries_of};
 ghost use Rattle.install_run.specs.Taking.{IsSomeEvent, IsTakenBy};
 
+pub(crate) mod print;
+
 use crate::air::Telegram;
 use crate::slot::Slot;
 use knx_base::NoMemory;

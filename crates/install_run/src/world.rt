@@ -3,6 +3,7 @@ ghost use Rattle.std.specs.List.{All};
 ghost use Rattle.script_text.specs.Script.{IsEvent};
 ghost use Rattle.install_run.specs.World.{IsStepped, HasRun, KeepsScript};
 
+mod print;
 mod views;
 
 use crate::air::Telegram;
