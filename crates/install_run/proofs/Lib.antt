@@ -2,3 +2,4 @@ mod Sounding
 mod Turning
 mod Stepping
 mod Beginning
+mod Ending

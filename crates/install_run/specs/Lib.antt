@@ -8,3 +8,5 @@ pub mod Taking
 pub mod Place
 pub mod World
 pub mod First
+pub mod Report
+pub mod Printing

@@ -7,6 +7,8 @@ ghost use Rattle.install_run.specs.First.{first_place, RowsStand};
 ghost use Rattle.install_run.specs.Runs.{place_of, entries_of};
 ghost use Rattle.install_run.specs.Taking.{IsSomeEvent, IsTakenBy};
 
+pub(crate) mod print;
+
 use crate::air::Telegram;
 use crate::first::{configured, formatted};
 use crate::power::started;

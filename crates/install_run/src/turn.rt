@@ -36,7 +36,7 @@ pub(crate) fn turn(
 }
 
 // The node of an event that comes to one.
-fn place_of(event: &Event) -> Option<usize>
+pub(crate) fn place_of(event: &Event) -> Option<usize>
     ensures place { result ≡ place_of event.now }
 {
     match *event {

@@ -4,6 +4,7 @@ ghost use Rattle.script_text.specs.Script.{IsEvent};
 ghost use Rattle.install_run.specs.First.{IsFirst};
 ghost use Rattle.install_run.specs.World.{IsStepped, HasRun, KeepsScript};
 
+mod print;
 mod views;
 
 use crate::air::Telegram;
