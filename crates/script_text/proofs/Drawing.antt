@@ -52,5 +52,5 @@ pub all_drawn : (old new : Before) (number count state sends : ℕ) → IsDrawn 
 all_drawn old new number count state sends drawn =
     let none : count - count ≡ 0 = omega arith in
     let past : drawn.past ≡ events_made count 1 number 0 =
-          sym (append-nil drawn.past) ∙ ap (λ n. drawn.past ++ events_made n (count + 1) state sends) (sym none) ∙ drawn.follow in
+    sym (append-nil drawn.past) ∙ ap (λ n. drawn.past ++ events_made n (count + 1) state sends) (sym none) ∙ drawn.follow in
     subst (λ events. IsWithEvents old events new) past drawn.with_past

@@ -144,5 +144,5 @@ pub whole : (inside before : Before) (rows : List NodeRow) → inside ≡ before
 whole inside before rows view stand few built =
     let short : crowded inside ≡ None = subst (λ (b : Before). crowded b ≡ None) (sym view) few in
     let nodes : rows ≡ map (node_row inside) inside.nodes =
-          subst (λ (b : Before). rows ≡ map (node_row b) b.nodes) (sym view) built in
+    subst (λ (b : Before). rows ≡ map (node_row b) b.nodes) (sym view) built in
     subst (λ rows. IsScript inside.rows rows inside.events) (sym nodes) (is_script inside stand short)

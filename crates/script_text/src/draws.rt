@@ -113,10 +113,7 @@ impl Draws {
     {
         let telegram = self.telegram();
         let node = self.draw_node();
-        Event::Deliver {
-            telegram,
-            node,
-        }
+        Event::Deliver { telegram, node }
     }
 
     // The first telegram, or one of the last eight that were sent or may have been.

@@ -17,6 +17,8 @@ mod reader;
 mod reading;
 mod said;
 mod script;
+#[cfg(test)]
+mod tests;
 mod words;
 
 pub use event::{Event, RawFrame, ToolApdu};
