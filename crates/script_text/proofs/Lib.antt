@@ -5,3 +5,4 @@ mod Places
 mod Known
 mod Whole
 mod Scripts
+mod Drawing

@@ -13,6 +13,7 @@ use Rattle.script_text.specs.Script.{IsEvent, IsNode, IsScript, AreTwoNodes, mos
 use Rattle.script_text.specs.Said.{Before, object_at, objects_at, lanes_at, is_crowded, is_again, crowded}
 use Rattle.script_text.specs.Lists.{IsNodeLine, Stand}
 use Rattle.script_text.specs.Text.{mark_in, number_of_mark, is_mark_of, node_row}
+use Rattle.script_text.specs.declared.node_row.NodeRow.{NodeRow}
 use Rattle.script_text.specs.declared.said.NodeLine.{NodeLine}
 use Rattle.script_text.specs.declared.said.ObjectLine.{ObjectLine}
 use Rattle.script_text.specs.declared.said.MarkLine.{MarkLine}
@@ -136,3 +137,12 @@ is_script before stand few = record {
   events_stand = subst (λ n. All (IsEvent n) before.events) (sym (length-map before.nodes (node_row before))) stand.events_stand;
   events_few = stand.events_few;
 }
+
+-- the same of the nodes that are built
+pub whole : (inside before : Before) (rows : List NodeRow) → inside ≡ before → Stand inside → crowded before ≡ None
+    → rows ≡ map (node_row before) before.nodes → IsScript inside.rows rows inside.events
+whole inside before rows view stand few built =
+    let short : crowded inside ≡ None = subst (λ (b : Before). crowded b ≡ None) (sym view) few in
+    let nodes : rows ≡ map (node_row inside) inside.nodes =
+    subst (λ (b : Before). rows ≡ map (node_row b) b.nodes) (sym view) built in
+    subst (λ rows. IsScript inside.rows rows inside.events) (sym nodes) (is_script inside stand short)

@@ -1,5 +1,5 @@
 -- What was said, as the reader holds it. This is plumbing for proofs.
-use Rattle.std.specs.Prelude.{◌≡◌, ℕ, ◌<◌, ◌≤◌, ◌^◌, false, true, Bool, List, [], ◌∷◌, ◌++◌, length, map, take, drop, find, Option, Some, None, Result, Ok, Err}
+use Rattle.std.specs.Prelude.{◌≡◌, ℕ, ◌+◌, ◌-◌, ◌<◌, ◌≤◌, ◌^◌, false, true, Bool, List, [], ◌∷◌, ◌++◌, length, map, take, drop, find, Option, Some, None, Result, Ok, Err}
 use Rattle.std.specs.List.{list_any, All, AllPairs}
 use Rattle.knx_base.specs.declared.address.IndAddr.{IndAddr}
 use Rattle.knx_base.specs.declared.cause.Cause.{Cause}
@@ -9,6 +9,9 @@ use Rattle.key_tables.specs.declared.types.Row.{Row}
 use Rattle.key_tables.specs.Build.{build_fault}
 use Rattle.key_tables.specs.Lanes.{is_any}
 use Rattle.group_objects.specs.Objects.{objects_fault}
+use Rattle.group_objects.specs.Value.{ObjectValue, bits_value, octets_value}
+use Rattle.knx_base.specs.declared.address.GroupAddr.{GroupAddr}
+use Rattle.script_text.specs.Made.{Made, all_flags, bits_group, octets_group, events_made, made_address, made_name, made_rows}
 use Rattle.script_text.specs.Parts.{IsName}
 use Rattle.script_text.specs.Script.{most_nodes, most_events, IsEvent}
 use Rattle.script_text.specs.Said.{Before, objects_at, is_again, lanes_at, is_crowded, crowded}
@@ -121,3 +124,55 @@ moves_lanes _ = false
 abbrev pub IsLineFault : ScriptFault → Result (Option Said) ScriptFault → Type 0
 IsLineFault fault.NoMemory found = Unit {0}
 IsLineFault fault found = found ≡ Err fault
+
+-- an event was made, and the draws stand there now
+pub record IsMade (made : Made) (event : Event) (state sends : ℕ) : Type 0 where
+  pub event_is : event ≡ made.event
+  pub state_is : state ≡ made.state
+  pub sends_are : sends ≡ made.sends
+
+-- ---- what is made
+
+abbrev pub HasRows : Before → List Row → Before → Type 0
+HasRows old rows new = new ≡ lists Rows (old.rows ++ rows) old.nodes old.objects old.marks old.events
+
+abbrev pub made_line : ℕ → NodeLine
+made_line node = record { line = 0; name = made_name node; address = made_address node; next = 1 }
+
+abbrev pub made_object_line : IndAddr → GroupAddr → ObjectValue → ObjectLine
+made_object_line node group value = record { node = node; row = record { group = group; flags = all_flags; value = value } }
+
+abbrev pub HasObject : Before → ObjectLine → Before → Type 0
+HasObject old object new = new ≡ lists Nodes old.rows old.nodes (old.objects ++ object ∷ []) old.marks old.events
+
+abbrev pub first_object : ℕ → ObjectLine
+first_object node = made_object_line (made_address node) bits_group (bits_value 0)
+
+abbrev pub second_object : ℕ → ObjectLine
+second_object node = made_object_line (made_address node) octets_group (octets_value (0 ∷ 0 ∷ []))
+
+abbrev pub HasNode : Before → ℕ → Before → Type 0
+HasNode old node new =
+    new ≡ lists Nodes old.rows (old.nodes ++ made_line node ∷ [])
+    ((old.objects ++ first_object node ∷ []) ++ second_object node ∷ []) old.marks old.events
+
+-- the installation
+abbrev pub installed : Before
+installed = lists Nodes made_rows (made_line 0 ∷ made_line 1 ∷ made_line 2 ∷ made_line 3 ∷ [])
+    (first_object 0 ∷ second_object 0 ∷ first_object 1 ∷ second_object 1
+    ∷ first_object 2 ∷ second_object 2 ∷ first_object 3 ∷ second_object 3 ∷ []) [] []
+
+-- with these events
+pub record IsWithEvents (old : Before) (events : List Event) (new : Before) : Type 0 where
+  pub rows_are : new.rows ≡ old.rows
+  pub nodes_are : new.nodes ≡ old.nodes
+  pub objects_are : new.objects ≡ old.objects
+  pub marks_are : new.marks ≡ old.marks
+  pub events_are : new.events ≡ old.events ++ events
+
+-- some events were drawn, and the draws stand where the others follow
+pub record IsDrawn (old new : Before) (number count index state sends : ℕ) : Type 0 where
+  pub past : List Event
+  pub with_past : IsWithEvents old past new
+  pub follow : past ++ events_made (count - index) (index + 1) state sends ≡ events_made count 1 number 0
+  pub counted : sends ≤ index

@@ -1,5 +1,5 @@
 -- The script that is made from a number: an installation of four nodes, and events that are drawn. This is statement.
-use Rattle.std.specs.Prelude.{◌≡◌, ℕ, suc, ◌+◌, ◌-◌, ◌*◌, ◌/◌, ◌%◌, ◌^◌, ◌==◌, nat_le, if◌then◌else◌, true, List, [], ◌∷◌, ◌++◌, length, map, replicate, slice_index, codes, Some, min}
+use Rattle.std.specs.Prelude.{◌≡◌, ℕ, zero, suc, ◌+◌, ◌-◌, ◌*◌, ◌/◌, ◌%◌, ◌^◌, ◌==◌, nat_le, if◌then◌else◌, true, List, [], ◌∷◌, ◌++◌, length, map, replicate, slice_index, codes, Some, min}
 use Rattle.knx_base.specs.declared.address.GroupAddr.{GroupAddr}
 use Rattle.knx_base.specs.declared.address.IndAddr.{IndAddr}
 use Rattle.knx_base.specs.Number.{octets_of}
@@ -67,7 +67,7 @@ made_objects =
 
 -- n0 to n3
 abbrev pub made_name : ℕ → List ℕ
-made_name node = 110 ∷ 48 + node ∷ []
+made_name node = 110 ∷ (48 + node) ∷ []
 
 -- no mark is above 0
 abbrev pub made_node : ℕ → NodeRow
@@ -82,7 +82,7 @@ made_node node = record {
 -- ---- draws
 
 -- the state after a draw
-unfoldable pub next_state : ℕ → ℕ
+abbrev pub next_state : ℕ → ℕ
 next_state state = (state * 6364136223846793005 + 1442695040888963407) % 2 ^ 64
 
 -- what a draw gave that left this state, where there were so many to draw from
@@ -174,7 +174,7 @@ event_made number state sends =
 
 -- so many events from this number on
 abbrev pub events_made : ℕ → ℕ → ℕ → ℕ → List Event
-events_made 0 number state sends = []
+events_made zero number state sends = []
 events_made (suc count) number state sends =
     let made = event_made number state sends in
     made.event ∷ events_made count (number + 1) made.state made.sends

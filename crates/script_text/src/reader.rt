@@ -37,6 +37,16 @@ impl Reader {
         }
     }
 
+    pub(crate) fn of_lists(alloc: Global, lists: Lists) -> Reader
+        ensures lists { result.lists ≡ lists }
+        ensures none { result.lanes.items ≡ [] }
+    {
+        Reader {
+            lists,
+            lanes: Vec::new(alloc),
+        }
+    }
+
     // Takes what a line says.
     #[tactic(auto, unfolding(crate::specs::Reading::line_said))]
     pub(crate) fn take(&mut self, alloc: Global, number: u64, line: &[u8]) -> Result<(), Refusal>

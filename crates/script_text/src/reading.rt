@@ -2,6 +2,7 @@ ghost use Rattle.std.specs.Prelude.{◌≡◌, ℕ, Ok, IfOk, IfErr, OnOk, map, 
 ghost use Rattle.script_text.specs.Lists.{IsKnown, IsSettled, IsLineFault, TakesSaid};
 ghost use Rattle.script_text.specs.Said.{fault_at, lanes_at};
 ghost use Rattle.script_text.specs.Reading.{at_line, line_said};
+ghost use Rattle.script_text.specs.Script.{IsScript};
 ghost use Rattle.script_text.specs.Text.{ended, is_mark_of, mark_in, node_row, script_of, IsTextFault};
 
 use crate::fault::Refusal;
@@ -23,6 +24,7 @@ use text_lines::Lines;
 #[tactic(auto, using(crate::proofs::Scripts::begins, crate::proofs::Scripts::line_refused, crate::proofs::Scripts::all_read))]
 pub fn read_script(alloc: Global, bytes: &[u8]) -> Result<Script, ScriptFault>
     ensures script { IfOk result (λ script. script_of bytes.now ≡ Ok script) }
+    ensures keeps { IfOk result (λ script. IsScript script.rows script.nodes script.events) }
     ensures fault { IfErr result (λ fault. IsTextFault fault (script_of bytes.now)) }
 {
     let mut reader = Reader::new(alloc);
@@ -64,9 +66,10 @@ fn fault_at(number: u64, refusal: Refusal) -> ScriptFault
 }
 
 // The script of all lines.
-fn finish(mut reader: Reader, alloc: Global) -> Result<Script, ScriptFault>
+pub(crate) fn finish(mut reader: Reader, alloc: Global) -> Result<Script, ScriptFault>
     requires known { IsKnown reader.lists reader.lanes.items }
     ensures script { IfOk result (λ script. ended reader.lists ≡ Ok script) }
+    ensures keeps { IfOk result (λ script. IsScript script.rows script.nodes script.events) }
     ensures fault { IfErr result (λ fault. IsTextFault fault (ended reader.lists)) }
 {
     if reader.lists.stage.is_start() {

@@ -35,7 +35,8 @@ impl Script {
     pub(crate) fn of_lists(lists: Lists, nodes: Vec<NodeRow>) -> Script
         requires nodes { nodes.items ≡ map (node_row lists) lists.nodes }
         requires few { crowded lists ≡ None }
-        ensures { result ≡ script_in lists }
+        ensures lists { result ≡ script_in lists }
+        ensures keeps { IsScript result.rows result.nodes result.events }
     {
         Script {
             rows: lists.rows,
