@@ -11,6 +11,8 @@ mod place;
 mod power;
 mod slot;
 mod take;
+#[cfg(test)]
+mod tests;
 mod turn;
 mod world;
 

@@ -47,6 +47,7 @@ impl World {
     /// all numbers below its next one reserved. Nothing is armed, and no telegram is on the air.
     pub fn new(alloc: Global, script: &Script) -> Result<World, NoMemory>
         ensures first { IfOk result (λ world. IsFirst script.now.rows script.now.nodes world) }
+        ensures size { IfOk result (λ world. length world.world.nodes ≡ length script.now.nodes) }
     {
         let rows = script.rows();
         let nodes = script.nodes();

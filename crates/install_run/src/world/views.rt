@@ -8,6 +8,13 @@ use crate::air::telegram_in;
 use step_text::{Entry, Step};
 
 impl World {
+    /// How many nodes there are.
+    pub fn nodes(&self) -> usize
+        ensures nodes { result ≡ length self.now.world.nodes }
+    {
+        self.places.len()
+    }
+
     /// The steps that were taken, in their order.
     pub fn history(&self) -> &[Step]
         ensures history { result.now ≡ self.now.history }
