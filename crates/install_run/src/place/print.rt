@@ -38,7 +38,7 @@ fn print_place<S: Sink>(node: &NodeRow, place: &Place, out: &mut S) -> Result<()
     ensures text { Prints (S.octets out.old) (S.octets out.new) result (place_end (node.now, place.now)) }
     ensures cause { HasCause (S.faults out.old) (S.faults out.new) result }
 {
-    print_node(&place.first(node), out)?;
+    print_node(&place.first_line(node), out)?;
     place.print_values(out)?;
     place.print_all_kept(out)?;
     place.print_octets(out)
@@ -46,7 +46,7 @@ fn print_place<S: Sink>(node: &NodeRow, place: &Place, out: &mut S) -> Result<()
 
 impl Place {
     // What the end tells of the node first.
-    fn first(&self, node: &NodeRow) -> NodeEnd
+    fn first_line(&self, node: &NodeRow) -> NodeEnd
         ensures { result ≡ first_of node.now self.now }
     {
         NodeEnd {
