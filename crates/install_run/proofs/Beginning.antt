@@ -1,7 +1,7 @@
 -- The configuration of a node of a script stands.
 use Prim.Native.Nat.{zero, suc}
-use Rattle.std.specs.List.{list_any, position_or_len}
-use Rattle.std.proofs.Common.{◌≡◌, ℕ, ◌+◌, ◌≤◌, ◌||◌, List, [], ◌∷◌, length, cond, Bool, true, false, Option, Some, None, refl, sym, ap, ◌∙◌, subst, nat_lt, arith}
+use Rattle.std.specs.List.{All, list_any, position_or_len}
+use Rattle.std.proofs.Common.{◌≡◌, ℕ, ◌+◌, ◌^◌, ◌<◌, ◌≤◌, ◌||◌, List, [], ◌∷◌, length, cond, Bool, true, false, Option, Some, None, refl, sym, ap, ◌∙◌, subst, nat_lt, arith}
 use Rattle.std.specs.Prelude.{not, map, position, option_map, unwrap_or, if◌then◌else◌}
 use Rattle.std.specs.Option.{is_some, option_or}
 use Rattle.std.proofs.lemmas.Bool.Decides.{nat_tests}
@@ -14,7 +14,8 @@ use Rattle.node_core.specs.Config.{configured, config_fault, lanes_fault, IsConf
 use Rattle.node_core.specs.declared.fault.ConfigFault.{ConfigFault}
 use Rattle.node_core.specs.declared.fault.ConfigFault.TheVariants.{Any, Rows, Objects, Lanes, NoMemory}
 use Rattle.script_text.specs.declared.node_row.NodeRow.{NodeRow}
-use Rattle.script_text.specs.Script.{IsNode}
+use Rattle.script_text.specs.declared.event.Event.{Event}
+use Rattle.script_text.specs.Script.{IsEvent, IsNode, IsScript}
 use Rattle.nvm_model.specs.Nvm.{State}
 use Rattle.nvm_model.specs.Plan.{unarmed}
 use Rattle.nvm_model.specs.SimNvm.{sim_state}
@@ -29,7 +30,7 @@ use Rattle.install_run.specs.Runs.{journal_of}
 use Rattle.install_run.specs.Counts.{no_counts}
 use Rattle.install_run.specs.Slot.{at_node_state, standing_of, IsSameMemory}
 use Rattle.install_run.specs.Place.{PlaceAt, place_in, node_of, counts_of}
-use Rattle.install_run.specs.World.{world_state, IsWorld}
+use Rattle.install_run.specs.World.{WorldState, world_state, IsWorld}
 use Rattle.install_run.specs.First.{first_numbers, first_node, zero_counts, IsFirst, first_place, RowsStand, IsFormatted}
 
 -- ---- a place where one passes
@@ -139,3 +140,14 @@ is_first rows kept nodes copied places air history rows_are nodes_are places_are
   counts_are = ap (map counts_of) places_are ∙ first_counts rows nodes;
   no_steps = no_steps;
 }
+
+-- ---- the events of the script
+
+pub events_fit : (rows : List Row) (nodes : List NodeRow) (events : List Event) (w : WorldState) → IsScript rows nodes events
+    → length w.world.nodes ≡ length nodes → All (IsEvent (length w.world.nodes)) events
+events_fit rows nodes events w script size = subst (λ n. All (IsEvent n) events) (sym size) script.events_stand
+
+pub few_events : (rows : List Row) (nodes : List NodeRow) (events : List Event) (w : WorldState) → IsScript rows nodes events
+    → IsFirst rows nodes w → length w.history + length events < 2 ^ 32
+few_events rows nodes events w script first =
+    let none : length w.history ≡ 0 = ap length first.no_steps in let few = script.events_few in omega (arith, none, few)

@@ -24,7 +24,7 @@ object lamp 1/2/3 w bits 00
 ";
 
 // The installation after the events of a script.
-#[tactic(auto, using(crate::proofs::Beginning::few_events))]
+#[tactic(auto, using(crate::proofs::Beginning::few_events, crate::proofs::Beginning::events_fit))]
 fn played(alloc: Global, text: &str) -> Result<World, Fail> {
     let script = read_script(alloc, text.as_bytes())?;
     let mut world = World::new(alloc, &script)?;
