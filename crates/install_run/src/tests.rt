@@ -177,3 +177,30 @@ fn the_longest_run_is_noted_whole(rt: HostRuntime) -> Result<(), Fail> {
     assert_eq!(rt; world.journal(1).len(), 1);
     Ok(())
 }
+
+// A bank with a gate, a generation and two numbers, and its first record; sixteen records stand in a bank, and behind the
+// bank its other one.
+const BANK: &str = "image a50000000000000000000000000000000000000000";
+
+#[test]
+fn a_run_is_told_whole(rt: HostRuntime) -> Result<(), Fail> {
+    let mut text = String::new(rt.alloc());
+    text.push_str(HEAD)?;
+    text.push_str(NODES)?;
+    text.push_str("send push 0 write\ndeliver 1 lamp\noff push\n")?;
+    let world = played(rt.alloc(), &text)?;
+    let mut out = MemSink::new(rt.alloc(), 2000)?;
+    if world.history().len() > 2 {
+        world.print_step(2, &mut out)?;
+    }
+    world.print_end(&mut out)?;
+    let mut front = String::new(rt.alloc());
+    front.push_str("3 down\nnode push off journal 0 reserved 64\nlane run:1.1.7 kept 0\n")?;
+    front.push_str(BANK)?;
+    front.push_str("a5000000000000400000")?;
+    assert!(rt; out.bytes().starts_with(front.as_bytes()));
+    let end = b"0000\nevents 3 telegrams 1\n";
+    assert!(rt; out.bytes().ends_with(end));
+    assert_eq!(rt; out.bytes().len(), 1365);
+    Ok(())
+}
