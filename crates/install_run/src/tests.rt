@@ -52,10 +52,9 @@ fn told(alloc: Global, parts: &[&str]) -> Result<MemSink, Fail> {
     let world = played(alloc, &text)?;
     let lanes = [Lane::Run(IndAddr(0x1107))];
     let mut out = MemSink::new(alloc, 10000)?;
-    let mut number = 0;
-    for step in world.history() {
-        number += 1;
-        print_step_line(number, &lanes, &step.outcome, &mut out)?;
+    let steps = world.history();
+    for place in 0..steps.len() {
+        print_step_line(place as u64 + 1, &lanes, &steps[place].outcome, &mut out)?;
     }
     Ok(out)
 }
