@@ -1,0 +1,5 @@
+mod Sounding
+mod Turning
+mod Stepping
+mod Beginning
+mod Ending

@@ -1,0 +1,12 @@
+pub mod Turn
+pub mod Machine
+pub mod Runs
+pub mod Air
+pub mod Counts
+pub mod Slot
+pub mod Taking
+pub mod Place
+pub mod World
+pub mod First
+pub mod Report
+pub mod Printing

@@ -1,0 +1,205 @@
+use crate::World;
+use key_tables::Lane;
+use knx_base::{IndAddr, MemSink};
+use script_text::read_script;
+use std::alloc::Global;
+use std::test::Fail;
+use step_text::print_step_line;
+
+// A push button at 1.1.7 and a lamp at 1.1.9, both of the group 1/2/3; the lamp has a tool key, and the button may manage
+// it. Behind the head come the marks of a case and its events.
+const HEAD: &str = "knx-script 1
+group 1/2/3 000102030405060708090a0b0c0d0e0f conf
+role 1/2/3 1.1.7 command
+";
+
+const TOOL: &str = "tool 1.1.9 000102030405060708090a0b0c0d0e0f
+role tool:1.1.9 1.1.7 manage
+";
+
+const NODES: &str = "node push 1.1.7 1
+object push 1/2/3 t bits 01
+node lamp 1.1.9 1
+object lamp 1/2/3 w bits 00
+";
+
+// The installation after the events of a script.
+#[tactic(auto, using(crate::proofs::Beginning::few_events, crate::proofs::Beginning::events_fit))]
+fn played(alloc: Global, text: &str) -> Result<World, Fail> {
+    let script = read_script(alloc, text.as_bytes())?;
+    let mut world = World::new(alloc, &script)?;
+    world.run(script.events())?;
+    Ok(world)
+}
+
+// A line with a number of at most two digits between two texts.
+fn line(text: &mut String, front: &str, number: u8, rest: &str) -> Result<(), Fail> {
+    text.push_str(front)?;
+    if number >= 10 {
+        text.push((b'0' + number / 10 % 10) as char)?;
+    }
+    text.push((b'0' + number % 10) as char)?;
+    text.push_str(rest)?;
+    Ok(())
+}
+
+// What comes of the events of a script.
+fn told(alloc: Global, parts: &[&str]) -> Result<MemSink, Fail> {
+    let mut text = String::new(alloc);
+    for part in parts {
+        text.push_str(part)?;
+    }
+    let world = played(alloc, &text)?;
+    let lanes = [Lane::Run(IndAddr(0x1107))];
+    let mut out = MemSink::new(alloc, 10000)?;
+    let steps = world.history();
+    for place in 0..steps.len() {
+        print_step_line(place as u64 + 1, &lanes, &steps[place].outcome, &mut out)?;
+    }
+    Ok(out)
+}
+
+#[test]
+fn a_telegram_acts_once(rt: HostRuntime) -> Result<(), Fail> {
+    let events =
+        "send push 0 write\ndeliver 1 lamp\ndeliver 1 lamp\nlose 1\ndeliver 1 lamp\nlose 1\ninject 2b00cc\ndeliver 2 lamp\nset lamp 0 bits:01\nset lamp 1 bits:01\nset lamp 0 01\nsend lamp 0 read\n";
+    let out = told(rt.alloc(), &[HEAD, NODES, events])?;
+    let lines = "1 air 1 number 1
+2 acted number 1 lane run:1.1.7 GroupValue_Write object 0 value 01
+3 stale kept 1 got 1
+4 lost
+5 gone
+6 gone
+7 air 2
+8 not-frame acknowledge cc
+9 set
+10 no-object
+11 size
+12 flag
+";
+    assert_eq!(rt; out.bytes(), lines.as_bytes());
+    Ok(())
+}
+
+// Events, and what comes of them where power is lost inside a write, where a write fails, and where the node is switched
+// off between two events.
+#[test]
+fn a_node_goes_on_with_what_its_memory_restores(rt: HostRuntime) -> Result<(), Fail> {
+    let rows = [
+        (
+            "send push 0 write\ncut lamp 1 a5\ndeliver 1 lamp\non lamp\ndeliver 1 lamp\n",
+            "1 air 1 number 1\n2 armed\n3 cut\n4 on next 1 run:1.1.7=0\n5 acted number 1 lane run:1.1.7 GroupValue_Write object 0 value 01\n",
+        ),
+        (
+            "send push 0 write\ncut lamp 2 a5\ndeliver 1 lamp\non lamp\ndeliver 1 lamp\n",
+            "1 air 1 number 1\n2 armed\n3 cut\n4 on next 1 run:1.1.7=1\n5 stale kept 1 got 1\n",
+        ),
+        (
+            "fault lamp 1 00\nsend push 0 write\ndeliver 1 lamp\ndeliver 1 lamp\non lamp\n",
+            "1 armed\n2 air 1 number 1\n3 fault\n4 off\n5 on next 1 run:1.1.7=0\n",
+        ),
+        (
+            "send push 0 write\noff push\nsend push 0 write\non push\nsend push 0 write\non push\n",
+            "1 air 1 number 1\n2 down\n3 off\n4 on next 65 run:1.1.7=0\n5 air 2 number 65\n6 running\n",
+        ),
+    ];
+    for (events, lines) in rows {
+        let out = told(rt.alloc(), &[HEAD, NODES, events])?;
+        assert_eq!(rt; out.bytes(), lines.as_bytes());
+    }
+    Ok(())
+}
+
+#[test]
+fn an_answer_lets_a_node_go_on_above_the_mark(rt: HostRuntime) -> Result<(), Fail> {
+    let events =
+        "mark lamp run:1.1.7 500\nsend push 0 write\ndeliver 1 lamp\nask push 1.1.9 010203040506\ndeliver 2 lamp\ndeliver 3 push\ndeliver 3 push\nsend push 0 write\ndeliver 4 lamp\n";
+    let out = told(rt.alloc(), &[HEAD, TOOL, NODES, events])?;
+    let lines = "1 air 1 number 1
+2 stale kept 500 got 1
+3 air 2 number 2
+4 answered challenge 010203040506 reply 3
+5 synced number 1 kept 500 next 501
+6 no-pending
+7 air 4 number 501
+8 acted number 501 lane run:1.1.7 GroupValue_Write object 0 value 01
+";
+    assert_eq!(rt; out.bytes(), lines.as_bytes());
+    Ok(())
+}
+
+// A script of as many nodes with as many lanes as there may be: each of them stops and starts again.
+#[test]
+fn the_largest_installation_runs(rt: HostRuntime) -> Result<(), Fail> {
+    let alloc = rt.alloc();
+    let mut text = String::new(alloc);
+    text.push_str("knx-script 1\ngroup 1/2/3 000102030405060708090a0b0c0d0e0f conf\n")?;
+    for sender in 0..64 {
+        line(&mut text, "role 1/2/3 1.1.", sender, " command\n")?;
+    }
+    for node in 0..32 {
+        line(&mut text, "node n", node, "")?;
+        line(&mut text, " 1.2.", node + 1, " 1\n")?;
+        line(&mut text, "object n", node, " 1/2/3 rwut bits 00\n")?;
+    }
+    for node in 0..32 {
+        line(&mut text, "off n", node, "\n")?;
+        line(&mut text, "on n", node, "\n")?;
+    }
+    let world = played(alloc, &text)?;
+    if world.nodes() != 32 {
+        return Err(Fail::from("another number of nodes"));
+    }
+    for node in 0..32 {
+        assert!(rt; world.is_running(node));
+        assert_eq!(rt; world.image(node).len(), 1054);
+    }
+    Ok(())
+}
+
+// A script of as many events as there may be: the telegram is acted on once.
+#[test]
+fn the_longest_run_is_noted_whole(rt: HostRuntime) -> Result<(), Fail> {
+    let alloc = rt.alloc();
+    let mut text = String::new(alloc);
+    for part in [HEAD, NODES, "send push 0 write\n"] {
+        text.push_str(part)?;
+    }
+    for _ in 1..100_000 {
+        text.push_str("deliver 1 lamp\n")?;
+    }
+    let world = played(alloc, &text)?;
+    if world.nodes() != 2 {
+        return Err(Fail::from("another number of nodes"));
+    }
+    assert_eq!(rt; world.history().len(), 100_000);
+    assert_eq!(rt; world.journal(1).len(), 1);
+    Ok(())
+}
+
+// A bank with a gate, a generation and two numbers, and its first record; sixteen records stand in a bank, and behind the
+// bank its other one.
+const BANK: &str = "image a50000000000000000000000000000000000000000";
+
+#[test]
+fn a_run_is_told_whole(rt: HostRuntime) -> Result<(), Fail> {
+    let mut text = String::new(rt.alloc());
+    text.push_str(HEAD)?;
+    text.push_str(NODES)?;
+    text.push_str("send push 0 write\ndeliver 1 lamp\noff push\n")?;
+    let world = played(rt.alloc(), &text)?;
+    let mut out = MemSink::new(rt.alloc(), 2000)?;
+    if world.history().len() > 2 {
+        world.print_step(2, &mut out)?;
+    }
+    world.print_end(&mut out)?;
+    let mut front = String::new(rt.alloc());
+    front.push_str("3 down\nnode push off journal 0 reserved 64\nlane run:1.1.7 kept 0\n")?;
+    front.push_str(BANK)?;
+    front.push_str("a5000000000000400000")?;
+    assert!(rt; out.bytes().starts_with(front.as_bytes()));
+    let end = b"0000\nevents 3 telegrams 1\n";
+    assert!(rt; out.bytes().ends_with(end));
+    assert_eq!(rt; out.bytes().len(), 1365);
+    Ok(())
+}
