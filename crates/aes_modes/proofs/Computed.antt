@@ -36,7 +36,8 @@ substitutes_all = refl
 
 substitutes_parts : (x : ℕ) → x < 256 → (slice_index SUBSTITUTED x ≡ sub_byte x) × (slice_index SUBSTITUTED x < 256)
 substitutes_parts x lt =
-    let parts = and_parts (slice_index SUBSTITUTED x == sub_byte x) (nat_lt (slice_index SUBSTITUTED x) 256) (all_below_at substitutes 256 x substitutes_all lt) in
+    let parts = and_parts (slice_index SUBSTITUTED x == sub_byte x) (nat_lt (slice_index SUBSTITUTED x) 256)
+    (all_below_at substitutes 256 x substitutes_all lt) in
     (eqb-true (slice_index SUBSTITUTED x) (sub_byte x) parts.0, ltb-true (slice_index SUBSTITUTED x) 256 parts.1)
 
 pub substituted : (x : ℕ) → x < 256 → slice_index SUBSTITUTED x ≡ sub_byte x
@@ -57,7 +58,8 @@ mixes_rows t j r = all_below (mixes t j r) 256
 abbrev mixes_all : List ℕ → ℕ → Bool
 mixes_all t j = all_below (mixes_rows t j) 4
 
-mixed_by : (t : List ℕ) (j r x : ℕ) → mixes_all t j ≡ true → r < 4 → x < 256 → octet_of (slice_index t x) r ≡ times (factor r j) (sub_byte x)
+mixed_by : (t : List ℕ) (j r x : ℕ) → mixes_all t j ≡ true → r < 4 → x < 256
+    → octet_of (slice_index t x) r ≡ times (factor r j) (sub_byte x)
 mixed_by t j r x h row lt =
     eqb-true (octet_of (slice_index t x) r) (times (factor r j) (slice_index SUBSTITUTED x))
     (all_below_at (mixes t j r) 256 x (all_below_at (mixes_rows t j) 4 r h row) lt)
@@ -105,10 +107,15 @@ is_round_constant_all : all_below is_round_constant 10 ≡ true
 unfolding product_below remainder times round_constant
 is_round_constant_all = refl
 
-round_constant_parts : (n : ℕ) → n < 10 → (slice_index ROUND_CONSTANTS n ≡ round_constant n) × (slice_index ROUND_CONSTANTS n < 256)
+round_constant_parts : (n : ℕ) → n < 10 → (slice_index ROUND_CONSTANTS n ≡ round_constant n)
+    × (slice_index ROUND_CONSTANTS n < 256)
 round_constant_parts n lt =
-    let parts = and_parts (slice_index ROUND_CONSTANTS n == round_constant n) (nat_lt (slice_index ROUND_CONSTANTS n) 256) (all_below_at is_round_constant 10 n is_round_constant_all lt) in
-    (eqb-true (slice_index ROUND_CONSTANTS n) (round_constant n) parts.0, ltb-true (slice_index ROUND_CONSTANTS n) 256 parts.1)
+    let parts = and_parts (slice_index ROUND_CONSTANTS n == round_constant n)
+    (nat_lt (slice_index ROUND_CONSTANTS n) 256) (all_below_at is_round_constant 10 n is_round_constant_all lt) in (
+      eqb-true (slice_index ROUND_CONSTANTS n) (round_constant n) parts.0,
+      ltb-true (slice_index ROUND_CONSTANTS n) 256
+          parts.1,
+    )
 
 pub round_constant_at : (n : ℕ) → n < 10 → slice_index ROUND_CONSTANTS n ≡ round_constant n
 round_constant_at n lt = (round_constant_parts n lt).0
@@ -128,11 +135,13 @@ restores_all : all_below restores 256 ≡ true
 restores_all = refl
 
 restores_parts : (x : ℕ) → x < 256
-    → (slice_index RESTORED (slice_index SUBSTITUTED x) ≡ x) × ((slice_index SUBSTITUTED (slice_index RESTORED x) ≡ x) × (slice_index RESTORED x < 256))
+    → (slice_index RESTORED (slice_index SUBSTITUTED x) ≡ x)
+    × ((slice_index SUBSTITUTED (slice_index RESTORED x) ≡ x) × (slice_index RESTORED x < 256))
 restores_parts x lt =
     let there = slice_index RESTORED (slice_index SUBSTITUTED x) == x in
     let back = slice_index SUBSTITUTED (slice_index RESTORED x) == x in
-    let parts = and_parts there (back && nat_lt (slice_index RESTORED x) 256) (all_below_at restores 256 x restores_all lt) in
+    let parts =
+    and_parts there (back && nat_lt (slice_index RESTORED x) 256) (all_below_at restores 256 x restores_all lt) in
     let rest = and_parts back (nat_lt (slice_index RESTORED x) 256) parts.1 in
     (eqb-true _ x parts.0, (eqb-true _ x rest.0, ltb-true (slice_index RESTORED x) 256 rest.1))
 
@@ -166,13 +175,16 @@ undoes_rows f g j r = all_below (undoes f g j r) 256
 abbrev undoes_all : (ℕ → ℕ → ℕ) → (ℕ → ℕ → ℕ) → ℕ → Bool
 undoes_all f g j = all_below (undoes_rows f g j) 4
 
-undone_by : (f g : ℕ → ℕ → ℕ) (j r x : ℕ) → undoes_all f g j ≡ true → r < 4 → x < 256 → entry_of f g r x ≡ (if r == j then x else 0)
+undone_by : (f g : ℕ → ℕ → ℕ) (j r x : ℕ) → undoes_all f g j ≡ true → r < 4 → x < 256
+    → entry_of f g r x ≡ (if r == j then x else 0)
 undone_by f g j r x h row lt =
-    eqb-true (entry_of f g r x) (if r == j then x else 0) (all_below_at (undoes f g j r) 256 x (all_below_at (undoes_rows f g j) 4 r h row) lt)
+    eqb-true (entry_of f g r x) (if r == j then x else 0) (all_below_at (undoes f g j r) 256 x
+    (all_below_at (undoes_rows f g j) 4 r h row) lt)
 
 -- row r of the column a, b, c, d
 abbrev pub row_of : ℕ → ℕ → ℕ → ℕ → ℕ → ℕ
-row_of r a b c d = (if r == 0 then a else 0) ⊕ (if r == 1 then b else 0) ⊕ (if r == 2 then c else 0) ⊕ (if r == 3 then d else 0)
+row_of r a b c d =
+    (if r == 0 then a else 0) ⊕ (if r == 1 then b else 0) ⊕ (if r == 2 then c else 0) ⊕ (if r == 3 then d else 0)
 
 undone : (f ga gb gc gd : ℕ → ℕ → ℕ) (r a b c d : ℕ)
     → undoes_all f ga 0 ≡ true → undoes_all f gb 1 ≡ true → undoes_all f gc 2 ≡ true → undoes_all f gd 3 ≡ true
@@ -182,7 +194,8 @@ undone : (f ga gb gc gd : ℕ → ℕ → ℕ) (r a b c d : ℕ)
     ≡ row_of r a b c d
 undone f ga gb gc gd r a b c d ha hb hc hd row la lb lc ld =
     product_of-sums f ga gb gc gd r a b c d
-    ∙ (λ i. undone_by f ga 0 r a ha row la i ⊕ undone_by f gb 1 r b hb row lb i ⊕ undone_by f gc 2 r c hc row lc i ⊕ undone_by f gd 3 r d hd row ld i)
+    ∙ (λ i. undone_by f ga 0 r a ha row la i ⊕ undone_by f gb 1 r b hb row lb i ⊕ undone_by f gc 2 r c hc row lc i ⊕
+    undone_by f gd 3 r d hd row ld i)
 
 -- ---- by tables: the product of the columns that they give is the octet in its row
 
@@ -216,7 +229,8 @@ unmixed_octet r w0 w1 w2 w3 word row e0 e1 e2 e3 =
     let at : (i : ℕ) → octet_of (w0 ⊕ w1 ⊕ w2 ⊕ w3) i
     ≡ unmixing UNMIXED0 i (octet_of word 0) ⊕ unmixing UNMIXED1 i (octet_of word 1)
     ⊕ unmixing UNMIXED2 i (octet_of word 2) ⊕ unmixing UNMIXED3 i (octet_of word 3) =
-    λ i. octet_of-⊕4 w0 w1 w2 w3 i ∙ (λ k. octet_of (e0 k) i ⊕ octet_of (e1 k) i ⊕ octet_of (e2 k) i ⊕ octet_of (e3 k) i) in
+    λ i. octet_of-⊕4 w0 w1 w2 w3 i ∙ (λ k. octet_of (e0 k) i ⊕ octet_of (e1 k) i ⊕ octet_of (e2 k) i ⊕ octet_of (e3 k)
+    i) in
     (λ k. mixed r (at 0 k) (at 1 k) (at 2 k) (at 3 k))
     ∙ undone factor (unmixing UNMIXED0) (unmixing UNMIXED1) (unmixing UNMIXED2) (unmixing UNMIXED3) r
     (octet_of word 0) (octet_of word 1) (octet_of word 2) (octet_of word 3) unmixes0 unmixes1 unmixes2 unmixes3 row
@@ -246,7 +260,8 @@ undoes3 = refl
 pub unmixed : (r a b c d : ℕ) → r < 4 → a < 256 → b < 256 → c < 256 → d < 256
     → product_of unfactor r (mixed 0 a b c d) (mixed 1 a b c d) (mixed 2 a b c d) (mixed 3 a b c d) ≡ row_of r a b c d
 unmixed r a b c d row la lb lc ld =
-    undone unfactor (mixing 0) (mixing 1) (mixing 2) (mixing 3) r a b c d undoes0 undoes1 undoes2 undoes3 row la lb lc ld
+    undone unfactor (mixing 0) (mixing 1) (mixing 2) (mixing 3) r a b c d undoes0 undoes1 undoes2 undoes3 row la lb lc
+    ld
 
 pub row_of-0 : (a b c d : ℕ) → row_of 0 a b c d ≡ a
 row_of-0 a b c d = xor_zero_r ((a ⊕ 0) ⊕ 0) ∙ xor_zero_r (a ⊕ 0) ∙ xor_zero_r a
@@ -278,4 +293,5 @@ are_octets_all = refl
 pub times-lt : (r j x : ℕ) → r < 4 → j < 4 → x < 256 → times (factor r j) x < 256
 times-lt r j x row column lt =
     ltb-true (times (factor r j) x) 256
-    (all_below_at (is_octet (factor r j)) 256 x (all_below_at (are_octets r) 4 j (all_below_at are_octets_rows 4 r are_octets_all row) column) lt)
+    (all_below_at (is_octet (factor r j)) 256 x (all_below_at (are_octets r) 4 j
+    (all_below_at are_octets_rows 4 r are_octets_all row) column) lt)

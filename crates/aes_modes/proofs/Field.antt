@@ -57,7 +57,8 @@ unfolding product_below
 product_below-⊕ w a b zero = refl
 product_below-⊕ w a b (suc n) =
     (λ i. product_below-⊕ w a b n i ⊕ coefficient-⊕ (w * 2 ^ n) a b n i)
-    ∙ ⊕_interchange (product_below w a n) (product_below w b n) (w * 2 ^ n * coefficient a n) (w * 2 ^ n * coefficient b n)
+    ∙ ⊕_interchange (product_below w a n) (product_below w b n) (w * 2 ^ n * coefficient a n)
+    (w * 2 ^ n * coefficient b n)
 
 remainder-⊕ : (p q n : ℕ) → remainder (p ⊕ q) n ≡ remainder p n ⊕ remainder q n
 unfolding remainder
@@ -72,7 +73,8 @@ remainder-⊕ p q (suc n) =
 
 pub times-⊕ : (w a b : ℕ) → times w (a ⊕ b) ≡ times w a ⊕ times w b
 unfolding times
-times-⊕ w a b = ap (λ x. remainder x 7) (product_below-⊕ w a b 8) ∙ remainder-⊕ (product_below w a 8) (product_below w b 8) 7
+times-⊕ w a b =
+    ap (λ x. remainder x 7) (product_below-⊕ w a b 8) ∙ remainder-⊕ (product_below w a 8) (product_below w b 8) 7
 
 -- ---- products of columns
 
@@ -111,6 +113,8 @@ product_of-sums f ga gb gc gd r a b c d =
     ∙ ap (λ x. x ⊕ (t ga 2 a ⊕ t gb 2 b ⊕ t gc 2 c ⊕ t gd 2 d) ⊕ (t ga 3 a ⊕ t gb 3 b ⊕ t gc 3 c ⊕ t gd 3 d))
     (⊕4_interchange (t ga 0 a) (t gb 0 b) (t gc 0 c) (t gd 0 d) (t ga 1 a) (t gb 1 b) (t gc 1 c) (t gd 1 d))
     ∙ ap (λ x. x ⊕ (t ga 3 a ⊕ t gb 3 b ⊕ t gc 3 c ⊕ t gd 3 d))
-    (⊕4_interchange (t ga 0 a ⊕ t ga 1 a) (t gb 0 b ⊕ t gb 1 b) (t gc 0 c ⊕ t gc 1 c) (t gd 0 d ⊕ t gd 1 d) (t ga 2 a) (t gb 2 b) (t gc 2 c) (t gd 2 d))
-    ∙ ⊕4_interchange (t ga 0 a ⊕ t ga 1 a ⊕ t ga 2 a) (t gb 0 b ⊕ t gb 1 b ⊕ t gb 2 b) (t gc 0 c ⊕ t gc 1 c ⊕ t gc 2 c) (t gd 0 d ⊕ t gd 1 d ⊕ t gd 2 d)
+    (⊕4_interchange (t ga 0 a ⊕ t ga 1 a) (t gb 0 b ⊕ t gb 1 b) (t gc 0 c ⊕ t gc 1 c) (t gd 0 d ⊕ t gd 1 d) (t ga 2 a)
+    (t gb 2 b) (t gc 2 c) (t gd 2 d))
+    ∙ ⊕4_interchange (t ga 0 a ⊕ t ga 1 a ⊕ t ga 2 a) (t gb 0 b ⊕ t gb 1 b ⊕ t gb 2 b) (t gc 0 c ⊕ t gc 1 c ⊕ t gc 2 c)
+    (t gd 0 d ⊕ t gd 1 d ⊕ t gd 2 d)
     (t ga 3 a) (t gb 3 b) (t gc 3 c) (t gd 3 d)

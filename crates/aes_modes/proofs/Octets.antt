@@ -17,9 +17,11 @@ octet_of-lt word r = remainder-lt (word / 2 ^ (24 - 8 * r))
 -- ---- sums
 
 pub octet_of-⊕ : (a b r : ℕ) → octet_of (a ⊕ b) r ≡ octet_of a r ⊕ octet_of b r
-octet_of-⊕ a b r = ap (λ x. x % 2 ^ 8) (xor_shr a b (24 - 8 * r)) ∙ xor_mod (a / 2 ^ (24 - 8 * r)) (b / 2 ^ (24 - 8 * r)) 8
+octet_of-⊕ a b r =
+    ap (λ x. x % 2 ^ 8) (xor_shr a b (24 - 8 * r)) ∙ xor_mod (a / 2 ^ (24 - 8 * r)) (b / 2 ^ (24 - 8 * r)) 8
 
-pub octet_of-⊕4 : (a b c d r : ℕ) → octet_of (a ⊕ b ⊕ c ⊕ d) r ≡ octet_of a r ⊕ octet_of b r ⊕ octet_of c r ⊕ octet_of d r
+pub octet_of-⊕4 : (a b c d r : ℕ) → octet_of (a ⊕ b ⊕ c ⊕ d) r
+    ≡ octet_of a r ⊕ octet_of b r ⊕ octet_of c r ⊕ octet_of d r
 octet_of-⊕4 a b c d r =
     octet_of-⊕ (a ⊕ b ⊕ c) d r
     ∙ ap (λ x. x ⊕ octet_of d r) (octet_of-⊕ (a ⊕ b) c r ∙ ap (λ x. x ⊕ octet_of c r) (octet_of-⊕ a b r))
@@ -31,10 +33,14 @@ pub block_of-⊕ : (s k : List ℕ)
     ≡ xor_blocks (block_of s) (block_of k)
 unfolding xor_blocks
 block_of-⊕ s k = λ i.
-    octet_of-⊕ (slice_index s 0) (slice_index k 0) 0 i ∷ octet_of-⊕ (slice_index s 0) (slice_index k 0) 1 i ∷ octet_of-⊕ (slice_index s 0) (slice_index k 0) 2 i ∷ octet_of-⊕ (slice_index s 0) (slice_index k 0) 3 i
-    ∷ octet_of-⊕ (slice_index s 1) (slice_index k 1) 0 i ∷ octet_of-⊕ (slice_index s 1) (slice_index k 1) 1 i ∷ octet_of-⊕ (slice_index s 1) (slice_index k 1) 2 i ∷ octet_of-⊕ (slice_index s 1) (slice_index k 1) 3 i
-    ∷ octet_of-⊕ (slice_index s 2) (slice_index k 2) 0 i ∷ octet_of-⊕ (slice_index s 2) (slice_index k 2) 1 i ∷ octet_of-⊕ (slice_index s 2) (slice_index k 2) 2 i ∷ octet_of-⊕ (slice_index s 2) (slice_index k 2) 3 i
-    ∷ octet_of-⊕ (slice_index s 3) (slice_index k 3) 0 i ∷ octet_of-⊕ (slice_index s 3) (slice_index k 3) 1 i ∷ octet_of-⊕ (slice_index s 3) (slice_index k 3) 2 i ∷ octet_of-⊕ (slice_index s 3) (slice_index k 3) 3 i ∷ []
+    octet_of-⊕ (slice_index s 0) (slice_index k 0) 0 i ∷ octet_of-⊕ (slice_index s 0) (slice_index k 0) 1 i
+    ∷ octet_of-⊕ (slice_index s 0) (slice_index k 0) 2 i ∷ octet_of-⊕ (slice_index s 0) (slice_index k 0) 3 i
+    ∷ octet_of-⊕ (slice_index s 1) (slice_index k 1) 0 i ∷ octet_of-⊕ (slice_index s 1) (slice_index k 1) 1 i
+    ∷ octet_of-⊕ (slice_index s 1) (slice_index k 1) 2 i ∷ octet_of-⊕ (slice_index s 1) (slice_index k 1) 3 i
+    ∷ octet_of-⊕ (slice_index s 2) (slice_index k 2) 0 i ∷ octet_of-⊕ (slice_index s 2) (slice_index k 2) 1 i
+    ∷ octet_of-⊕ (slice_index s 2) (slice_index k 2) 2 i ∷ octet_of-⊕ (slice_index s 2) (slice_index k 2) 3 i
+    ∷ octet_of-⊕ (slice_index s 3) (slice_index k 3) 0 i ∷ octet_of-⊕ (slice_index s 3) (slice_index k 3) 1 i
+    ∷ octet_of-⊕ (slice_index s 3) (slice_index k 3) 2 i ∷ octet_of-⊕ (slice_index s 3) (slice_index k 3) 3 i ∷ []
 
 -- ---- octets put together
 
@@ -61,13 +67,15 @@ block_of-columns_of b h =
     ∷ (at 3).0 i ∷ (at 3).1 i ∷ (at 3).2 i ∷ (at 3).3 i ∷ [] in
     octets ∙ sym (square_entry b h.length)
 
-word_of_octets : (word : ℕ) → word < 2 ^ 32 → word ≡ from_be_bytes w32 (octet_of word 0 ∷ octet_of word 1 ∷ octet_of word 2 ∷ octet_of word 3 ∷ [])
+word_of_octets : (word : ℕ) → word < 2 ^ 32 → word ≡ from_be_bytes w32
+    (octet_of word 0 ∷ octet_of word 1 ∷ octet_of word 2 ∷ octet_of word 3 ∷ [])
 word_of_octets word lt = omega arith
 
 -- the octets of four words give back the words
 pub columns_of-block_of : (a b c d : ℕ) → a < 2 ^ 32 → b < 2 ^ 32 → c < 2 ^ 32 → d < 2 ^ 32
     → a ∷ b ∷ c ∷ d ∷ [] ≡ columns_of (block_of (a ∷ b ∷ c ∷ d ∷ []))
-columns_of-block_of a b c d la lb lc ld = λ i. word_of_octets a la i ∷ word_of_octets b lb i ∷ word_of_octets c lc i ∷ word_of_octets d ld i ∷ []
+columns_of-block_of a b c d la lb lc ld =
+    λ i. word_of_octets a la i ∷ word_of_octets b lb i ∷ word_of_octets c lc i ∷ word_of_octets d ld i ∷ []
 
 -- ---- the next round key
 
@@ -98,7 +106,8 @@ pub octet_of-columns : (k : List ℕ) (added r first : ℕ) → octet_of added r
     × (octet_of (slice_index k 2 ⊕ (slice_index k 1 ⊕ (slice_index k 0 ⊕ added))) r
     ≡ octet_of (slice_index k 2) r ⊕ (octet_of (slice_index k 1) r ⊕ (octet_of (slice_index k 0) r ⊕ first)))
     × (octet_of (slice_index k 3 ⊕ (slice_index k 2 ⊕ (slice_index k 1 ⊕ (slice_index k 0 ⊕ added)))) r
-    ≡ octet_of (slice_index k 3) r ⊕ (octet_of (slice_index k 2) r ⊕ (octet_of (slice_index k 1) r ⊕ (octet_of (slice_index k 0) r ⊕ first))))
+    ≡ octet_of (slice_index k 3) r ⊕ (octet_of (slice_index k 2) r ⊕
+    (octet_of (slice_index k 1) r ⊕ (octet_of (slice_index k 0) r ⊕ first))))
 octet_of-columns k added r first e =
     let next : (c x y : ℕ) → octet_of x r ≡ y → octet_of (slice_index k c ⊕ x) r ≡ octet_of (slice_index k c) r ⊕ y =
     λ c x y h. octet_of-⊕ (slice_index k c) x r ∙ ap (λ z. octet_of (slice_index k c) r ⊕ z) h in

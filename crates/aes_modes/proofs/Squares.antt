@@ -28,10 +28,14 @@ fits_nil = record { octets = λ i. lit< tt }
 pub IsBlock_square : (f : ℕ → ℕ → ℕ) → ((r c : ℕ) → r < 4 → c < 4 → f r c < 256) → IsBlock (square f)
 IsBlock_square f h =
     let fit : AllFit (square f) =
-    fits_cons (h 0 0 (lit< tt) (lit< tt)) (fits_cons (h 1 0 (lit< tt) (lit< tt)) (fits_cons (h 2 0 (lit< tt) (lit< tt)) (fits_cons (h 3 0 (lit< tt) (lit< tt)) (
-    fits_cons (h 0 1 (lit< tt) (lit< tt)) (fits_cons (h 1 1 (lit< tt) (lit< tt)) (fits_cons (h 2 1 (lit< tt) (lit< tt)) (fits_cons (h 3 1 (lit< tt) (lit< tt)) (
-    fits_cons (h 0 2 (lit< tt) (lit< tt)) (fits_cons (h 1 2 (lit< tt) (lit< tt)) (fits_cons (h 2 2 (lit< tt) (lit< tt)) (fits_cons (h 3 2 (lit< tt) (lit< tt)) (
-    fits_cons (h 0 3 (lit< tt) (lit< tt)) (fits_cons (h 1 3 (lit< tt) (lit< tt)) (fits_cons (h 2 3 (lit< tt) (lit< tt)) (fits_cons (h 3 3 (lit< tt) (lit< tt)) (
+    fits_cons (h 0 0 (lit< tt) (lit< tt)) (fits_cons (h 1 0 (lit< tt) (lit< tt))
+    (fits_cons (h 2 0 (lit< tt) (lit< tt)) (fits_cons (h 3 0 (lit< tt) (lit< tt)) (
+    fits_cons (h 0 1 (lit< tt) (lit< tt)) (fits_cons (h 1 1 (lit< tt) (lit< tt))
+    (fits_cons (h 2 1 (lit< tt) (lit< tt)) (fits_cons (h 3 1 (lit< tt) (lit< tt)) (
+    fits_cons (h 0 2 (lit< tt) (lit< tt)) (fits_cons (h 1 2 (lit< tt) (lit< tt))
+    (fits_cons (h 2 2 (lit< tt) (lit< tt)) (fits_cons (h 3 2 (lit< tt) (lit< tt)) (
+    fits_cons (h 0 3 (lit< tt) (lit< tt)) (fits_cons (h 1 3 (lit< tt) (lit< tt))
+    (fits_cons (h 2 3 (lit< tt) (lit< tt)) (fits_cons (h 3 3 (lit< tt) (lit< tt)) (
     fits_nil)))))))))))))))) in
     record { length = refl; octets = fit.octets }
 
@@ -56,11 +60,13 @@ unfolding key_expansion
 IsBlock_key_expansion k h zero le = h
 IsBlock_key_expansion k h (suc n) le =
     IsBlock_square (next_entry (key_expansion k n) (round_constant n))
-    (λ r c _ _. next_entry-lt (key_expansion k n) (round_constant n) r (IsBlock_key_expansion k h n (omega arith)) (round_constant-lt n (omega arith)) c)
+    (λ r c _ _. next_entry-lt (key_expansion k n) (round_constant n) r (IsBlock_key_expansion k h n (omega arith))
+    (round_constant-lt n (omega arith)) c)
 
 -- a key's words are those of its round keys
 pub round_key_at : (words : List (List ℕ)) (k : List ℕ) → words ≡ schedule_of (block_of (slice_index_or words 0 []))
-    → block_of (slice_index_or words 0 []) ≡ k → (n : ℕ) → n ≤ 10 → block_of (slice_index_or words n []) ≡ key_expansion k n
+    → block_of (slice_index_or words 0 []) ≡ k → (n : ℕ) → n ≤ 10
+    → block_of (slice_index_or words n []) ≡ key_expansion k n
 unfolding schedule_of
 round_key_at words k whole first n le =
     let key = block_of (slice_index_or words 0 []) in
@@ -68,7 +74,8 @@ round_key_at words k whole first n le =
     ap (λ (ws : List (List ℕ)). slice_index_or ws n []) whole
     ∙ get_or-map-range_with_len (λ m. columns_of (key_expansion key m)) 0 11 n n [] (omega arith) (omega arith) in
     ap block_of at
-    ∙ block_of-columns_of (key_expansion key n) (IsBlock_key_expansion key (IsBlock_block_of (slice_index_or words 0 [])) n le)
+    ∙ block_of-columns_of (key_expansion key n) (IsBlock_key_expansion key
+    (IsBlock_block_of (slice_index_or words 0 [])) n le)
     ∙ ap (λ (b : List ℕ). key_expansion b n) first
 
 -- ---- sums of blocks
@@ -82,7 +89,8 @@ unfolding xor_blocks
 length-xor_blocks a b = refl
 
 -- two lists of 16 numbers with the same numbers at each place
-pub same_blocks : (a b : List ℕ) → length a ≡ 16 → length b ≡ 16 → ((i : ℕ) → i < 16 → slice_index a i ≡ slice_index b i) → a ≡ b
+pub same_blocks : (a b : List ℕ) → length a ≡ 16 → length b ≡ 16
+    → ((i : ℕ) → i < 16 → slice_index a i ≡ slice_index b i) → a ≡ b
 same_blocks a b la lb h = same_number_lists a b (la ∙ sym lb) (λ i lt. h i (omega arith))
 
 pub xor_blocks_comm : (a b : List ℕ) → xor_blocks a b ≡ xor_blocks b a
@@ -93,7 +101,8 @@ xor_blocks_comm a b =
 pub xor_blocks_twice : (a b : List ℕ) → length a ≡ 16 → xor_blocks (xor_blocks a b) b ≡ a
 xor_blocks_twice a b la =
     same_blocks (xor_blocks (xor_blocks a b) b) a (length-xor_blocks (xor_blocks a b) b) la
-    (λ i lt. xor_blocks-at (xor_blocks a b) b i lt ∙ ap (λ x. x ⊕ slice_index b i) (xor_blocks-at a b i lt) ∙ ⊕_twice (slice_index a i) (slice_index b i))
+    (λ i lt. xor_blocks-at (xor_blocks a b) b i lt ∙ ap (λ x. x ⊕ slice_index b i) (xor_blocks-at a b i lt)
+    ∙ ⊕_twice (slice_index a i) (slice_index b i))
 
 pub xor_blocks_cancel : (a b k : List ℕ) → length a ≡ 16 → length b ≡ 16 → xor_blocks a k ≡ xor_blocks b k → a ≡ b
 xor_blocks_cancel a b k la lb e =
@@ -102,4 +111,5 @@ xor_blocks_cancel a b k la lb e =
 pub IsBlock_xor_blocks : (a b : List ℕ) → IsBlock a → IsBlock b → IsBlock (xor_blocks a b)
 unfolding xor_blocks
 IsBlock_xor_blocks a b ha hb =
-    IsBlock_square (λ r c. entry a r c ⊕ entry b r c) (λ r c _ _. xor_of_8 _ _ (ha.octets (r + 4 * c)) (hb.octets (r + 4 * c)))
+    IsBlock_square (λ r c. entry a r c ⊕ entry b r c) (λ r c _ _. xor_of_8 _ _ (ha.octets (r + 4 * c))
+    (hb.octets (r + 4 * c)))

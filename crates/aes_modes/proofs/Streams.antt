@@ -11,9 +11,11 @@ pub length-with_stream : (k ctr0 p : List ℕ) → length (with_stream k ctr0 p)
 unfolding with_stream
 length-with_stream k ctr0 p = length-map-range_with_len (λ j. slice_index p j ⊕ stream_of k ctr0 j) 0 (length p)
 
-pub with_stream-at : (k ctr0 p : List ℕ) (i : ℕ) → i < length p → slice_index (with_stream k ctr0 p) i ≡ slice_index p i ⊕ stream_of k ctr0 i
+pub with_stream-at : (k ctr0 p : List ℕ) (i : ℕ) → i < length p
+    → slice_index (with_stream k ctr0 p) i ≡ slice_index p i ⊕ stream_of k ctr0 i
 unfolding with_stream
-with_stream-at k ctr0 p i lt = get_or-map-range_with_len (λ j. slice_index p j ⊕ stream_of k ctr0 j) 0 (length p) i i 0 lt (omega arith)
+with_stream-at k ctr0 p i lt =
+    get_or-map-range_with_len (λ j. slice_index p j ⊕ stream_of k ctr0 j) 0 (length p) i i 0 lt (omega arith)
 
 -- the stream that is added twice is gone
 pub with_stream-twice : (k ctr0 p : List ℕ) → with_stream k ctr0 (with_stream k ctr0 p) ≡ p
@@ -27,7 +29,8 @@ with_stream-twice k ctr0 p =
     ∙ ⊕_twice (slice_index p i) (stream_of k ctr0 i))
 
 -- octet i of block n of the stream
-pub stream_of-at : (k ctr0 : List ℕ) (n i : ℕ) → i < 16 → stream_of k ctr0 (16 * n + i) ≡ slice_index (cipher k (slice_set ctr0 15 n)) i
+pub stream_of-at : (k ctr0 : List ℕ) (n i : ℕ) → i < 16 → stream_of k ctr0 (16 * n + i)
+    ≡ slice_index (cipher k (slice_set ctr0 15 n)) i
 unfolding stream_of
 stream_of-at k ctr0 n i lt =
     let block : (16 * n + i) / 16 ≡ n = omega arith in

@@ -134,10 +134,14 @@ pub(crate) fn last_round(s: Columns, k: Columns) -> Columns
 // InvMixColumns: the column whose product this one is (5.3.3).
 #[inline(always)]
 fn unmixed_column(t: u32) -> u32
-    ensures row0 { mixed 0 (octet_of result 0) (octet_of result 1) (octet_of result 2) (octet_of result 3) ≡ octet_of t 0 }
-    ensures row1 { mixed 1 (octet_of result 0) (octet_of result 1) (octet_of result 2) (octet_of result 3) ≡ octet_of t 1 }
-    ensures row2 { mixed 2 (octet_of result 0) (octet_of result 1) (octet_of result 2) (octet_of result 3) ≡ octet_of t 2 }
-    ensures row3 { mixed 3 (octet_of result 0) (octet_of result 1) (octet_of result 2) (octet_of result 3) ≡ octet_of t 3 }
+    ensures row0 { mixed 0 (octet_of result 0) (octet_of result 1) (octet_of result 2) (octet_of result 3)
+        ≡ octet_of t 0 }
+    ensures row1 { mixed 1 (octet_of result 0) (octet_of result 1) (octet_of result 2) (octet_of result 3)
+        ≡ octet_of t 1 }
+    ensures row2 { mixed 2 (octet_of result 0) (octet_of result 1) (octet_of result 2) (octet_of result 3)
+        ≡ octet_of t 2 }
+    ensures row3 { mixed 3 (octet_of result 0) (octet_of result 1) (octet_of result 2) (octet_of result 3)
+        ≡ octet_of t 3 }
 {
     column_at(&UNMIXED0, octet(t, 0))
         ^ column_at(&UNMIXED1, octet(t, 1))

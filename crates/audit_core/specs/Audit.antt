@@ -1,4 +1,5 @@
--- The audit of a list of records: what stands in the line of each, by the records before it. The latest of those comes first.
+-- The audit of a list of records: what stands in the line of each, by the records before it. The latest of those comes
+-- first.
 use Rattle.std.specs.Prelude.{ℕ, ◌+◌, ◌==◌, ◌&&◌, max, if◌then◌else◌, List, [], ◌∷◌, length, map, find, Bool, true, false, Option, Some, None, Result, Ok, Err}
 use Rattle.std.specs.List.{filter}
 use Rattle.std.specs.Option.{option_and_then}
@@ -114,7 +115,8 @@ challenge_in _ = None
 -- the challenge of the requester's last request to the responder, unless an answer to it came after
 abbrev pub last_asked : List Line → Asked
 last_asked lines requester responder =
-    option_and_then (λ line. challenge_in line.verdict) (find (λ line. is_exchange requester responder line.verdict line.addresses) lines)
+    option_and_then (λ line. challenge_in line.verdict) (find
+    (λ line. is_exchange requester responder line.verdict line.addresses) lines)
 
 -- ---- a list of records
 
@@ -128,7 +130,8 @@ judged_after rows before index r = record {
 -- what is made of these records
 unfoldable pub judged_of : List Row → List (List ℕ) → List Judged
 judged_of rows [] = []
-judged_of rows (octets ∷ past) = judged_after rows (judged_of rows past) (length past + 1) (telegram_in octets) ∷ judged_of rows past
+judged_of rows (octets ∷ past) =
+    judged_after rows (judged_of rows past) (length past + 1) (telegram_in octets) ∷ judged_of rows past
 
 -- the lines of these records
 abbrev pub lines_of : List Row → List (List ℕ) → List Line
@@ -144,7 +147,8 @@ audit_asked rows past = last_asked (lines_of rows past)
 
 -- the line of a record after these
 abbrev pub line_of : List Row → List (List ℕ) → List ℕ → Line
-line_of rows past octets = line_under rows (length past + 1) (audit_mark rows past) (audit_asked rows past) (telegram_in octets)
+line_of rows past octets =
+    line_under rows (length past + 1) (audit_mark rows past) (audit_asked rows past) (telegram_in octets)
 
 -- the APDU that a record after these opens to, and no octets where it doesn't
 abbrev pub apdu_of : List Row → List (List ℕ) → List ℕ → List ℕ

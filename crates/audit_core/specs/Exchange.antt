@@ -26,11 +26,13 @@ pub record IsUnder (rows : List Row) (key octets : List ℕ) (t : Telegram) : Ty
 -- A request is one, whatever was kept and whoever asks.
 abbrev pub RequestIsJudged : List ℕ → IndAddr → IndAddr → ℕ → List ℕ → Type 0
 RequestIsJudged key source destination number challenge =
-    (rows : List Row) (mark : ℕ) (asked : Option (List ℕ)) (t : Telegram) → IsUnder rows key (ask_frame key source destination number challenge) t
+    (rows : List Row) (mark : ℕ) (asked : Option (List ℕ)) (t : Telegram)
+    → IsUnder rows key (ask_frame key source destination number challenge) t
     → OrSender (verdict.SyncAsk number challenge) (verdict_of rows mark asked t)
 
 -- An answer is one under the challenge that it answers, whatever was kept.
 abbrev pub AnswerIsJudged : List ℕ → IndAddr → IndAddr → ℕ → List ℕ → ℕ → Type 0
 AnswerIsJudged key source destination number challenge kept =
-    (rows : List Row) (mark : ℕ) (t : Telegram) → IsUnder rows key (answer_frame key source destination number challenge kept) t
+    (rows : List Row) (mark : ℕ) (t : Telegram) → IsUnder rows key
+    (answer_frame key source destination number challenge kept) t
     → OrSender (verdict.SyncAnswer number kept) (verdict_of rows mark (Some challenge) t)

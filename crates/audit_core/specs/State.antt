@@ -44,7 +44,8 @@ exchanged source destination _ before = before
 -- the challenges, where this is the line of a frame
 abbrev pub noted : Line → Asked → Asked
 noted line asked requester responder =
-    if is_exchange requester responder line.verdict line.addresses then challenge_in line.verdict else asked requester responder
+    if is_exchange requester responder line.verdict line.addresses then challenge_in line.verdict
+    else asked requester responder
 
 abbrev pub one_if : Bool → ℕ
 one_if holds = if holds then 1 else 0
@@ -61,8 +62,10 @@ with_line line total = record {
 -- One frame was taken, and this is its line.
 pub record Steps (old new : AuditState) (octets : List ℕ) (line : Line) : Type 0 where
   pub rows : new.rows ≡ old.rows
-  pub line_is : line ≡ line_under old.rows (old.total.records + 1) (mark_in old.marks) (asked_in old.asked) (telegram_in octets)
+  pub line_is : line ≡ line_under old.rows (old.total.records + 1) (mark_in old.marks) (asked_in old.asked)
+      (telegram_in octets)
   pub marks : (lane : Lane)
-      → mark_in new.marks lane ≡ raised (kept_of old.rows (mark_in old.marks) (asked_in old.asked) (telegram_in octets)) lane (mark_in old.marks lane)
+      → mark_in new.marks lane ≡ raised (kept_of old.rows (mark_in old.marks) (asked_in old.asked) (telegram_in octets))
+      lane (mark_in old.marks lane)
   pub asked : asked_in new.asked ≡ noted line (asked_in old.asked)
   pub total : new.total ≡ with_line line old.total

@@ -22,7 +22,8 @@ repeat_text false = []
 -- the addresses, and whether the frame was repeated; a dash where the record is no frame
 abbrev pub place_text : Option Addresses → Bool → List ℕ
 place_text None repeated = codes "-"
-place_text (Some found) repeated = individual_text found.source.0 ++ codes " > " ++ address_text found.group found.destination ++ repeat_text repeated
+place_text (Some found) repeated =
+    individual_text found.source.0 ++ codes " > " ++ address_text found.group found.destination ++ repeat_text repeated
 
 abbrev pub end_text : Bool → List ℕ
 end_text true = codes " !\n"
@@ -30,7 +31,8 @@ end_text false = codes "\n"
 
 -- what stands before the verdict
 abbrev pub head_text : Line → Option ℤ → List ℕ
-head_text line time = decimal line.index ++ time_text time ++ 32 ∷ [] ++ place_text line.addresses line.repeated ++ 32 ∷ []
+head_text line time =
+    decimal line.index ++ time_text time ++ 32 ∷ [] ++ place_text line.addresses line.repeated ++ 32 ∷ []
 
 -- the line of a record, with its time and the APDU that was opened
 abbrev pub line_text : Line → Option ℤ → List ℕ → List ℕ
@@ -38,5 +40,6 @@ line_text line time apdu = head_text line time ++ verdict_text line.verdict apdu
 
 abbrev pub total_text : Total → List ℕ
 total_text total =
-    codes "total " ++ decimal total.records ++ codes " accepted " ++ decimal total.accepted ++ codes " sync " ++ decimal total.synchronised
+    codes "total " ++ decimal total.records ++ codes " accepted " ++ decimal total.accepted ++ codes " sync "
+    ++ decimal total.synchronised
     ++ codes " alarms " ++ decimal total.alarms ++ 10 ∷ []

@@ -52,9 +52,12 @@ impl Audit {
     /// memory nothing has changed.
     pub fn frame(&mut self, octets: &[u8], apdu: &mut ApduBuf) -> Result<Line, NoMemory>
         requires few { self.old.total.records < 2 ^ 64 - 1 }
-        ensures line { (past : List (List ℕ)) → Knows self.old past → IfOk result (λ line. line ≡ line_of self.old.rows past octets.now) }
-        ensures knows { (past : List (List ℕ)) → Knows self.old past → OnOk result (Knows self.new (octets.now ∷ past)) }
-        ensures opened { (past : List (List ℕ)) → Knows self.old past → OnOk result (apdu.new ≡ apdu_of self.old.rows past octets.now) }
+        ensures line { (past : List (List ℕ)) → Knows self.old past
+            → IfOk result (λ line. line ≡ line_of self.old.rows past octets.now) }
+        ensures knows { (past : List (List ℕ)) → Knows self.old past
+            → OnOk result (Knows self.new (octets.now ∷ past)) }
+        ensures opened { (past : List (List ℕ)) → Knows self.old past
+            → OnOk result (apdu.new ≡ apdu_of self.old.rows past octets.now) }
         ensures rows { self.new.rows ≡ self.old.rows }
         ensures counted { OnOk result (self.new.total.records ≡ self.old.total.records + 1) }
         ensures unchanged { OnErr result (self.new ≡ self.old) }
@@ -66,7 +69,8 @@ impl Audit {
     fn step(&mut self, octets: &[u8], apdu: &mut ApduBuf) -> Result<Line, NoMemory>
         requires few { self.old.total.records < 2 ^ 64 - 1 }
         ensures steps { IfOk result (λ line. Steps self.old self.new octets.now line) }
-        ensures opened { OnOk result (apdu.new ≡ opened_of self.old.rows (asked_in self.old.asked) (telegram_in octets.now)) }
+        ensures opened { OnOk result (apdu.new ≡ opened_of self.old.rows (asked_in self.old.asked)
+            (telegram_in octets.now)) }
         ensures unchanged { OnErr result (self.new ≡ self.old) }
         ensures apdu_stays { OnErr result (apdu.new ≡ apdu.old) }
     {

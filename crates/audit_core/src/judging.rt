@@ -24,9 +24,11 @@ pub(crate) fn judge_next(
     octets: &[u8],
     apdu: &mut ApduBuf,
 ) -> Result<Line, NoMemory>
-    ensures line { IfOk result (λ line. line ≡ line_under tables.now index (mark_in past.old.marks) (asked_in past.old.asked) (telegram_in octets.now)) }
+    ensures line { IfOk result (λ line. line ≡ line_under tables.now index (mark_in past.old.marks)
+        (asked_in past.old.asked) (telegram_in octets.now)) }
     ensures kept { IsOk result → (other : Lane) → mark_in past.new.marks other
-        ≡ raised (kept_of tables.now (mark_in past.old.marks) (asked_in past.old.asked) (telegram_in octets.now)) other (mark_in past.old.marks other) }
+        ≡ raised (kept_of tables.now (mark_in past.old.marks) (asked_in past.old.asked) (telegram_in octets.now)) other
+        (mark_in past.old.marks other) }
     ensures noted { IfOk result (λ line. asked_in past.new.asked ≡ noted line (asked_in past.old.asked)) }
     ensures opened { OnOk result (apdu.new ≡ opened_of tables.now (asked_in past.old.asked) (telegram_in octets.now)) }
     ensures unchanged { OnErr result (past.new ≡ past.old) }
@@ -49,9 +51,11 @@ fn judge_frame(
     frame: &Frame<'_>,
     apdu: &mut ApduBuf,
 ) -> Result<Line, NoMemory>
-    ensures line { IfOk result (λ line. line ≡ line_under tables.now index (mark_in past.old.marks) (asked_in past.old.asked) (Ok (telegram frame.now))) }
+    ensures line { IfOk result (λ line. line ≡ line_under tables.now index (mark_in past.old.marks)
+        (asked_in past.old.asked) (Ok (telegram frame.now))) }
     ensures kept { IsOk result → (other : Lane) → mark_in past.new.marks other
-        ≡ raised (kept_of tables.now (mark_in past.old.marks) (asked_in past.old.asked) (Ok (telegram frame.now))) other (mark_in past.old.marks other) }
+        ≡ raised (kept_of tables.now (mark_in past.old.marks) (asked_in past.old.asked) (Ok (telegram frame.now))) other
+        (mark_in past.old.marks other) }
     ensures noted { IfOk result (λ line. asked_in past.new.asked ≡ noted line (asked_in past.old.asked)) }
     ensures opened { OnOk result (apdu.new ≡ opened_of tables.now (asked_in past.old.asked) (Ok (telegram frame.now))) }
     ensures unchanged { OnErr result (past.new ≡ past.old) }
@@ -84,7 +88,8 @@ fn telegram_line(tables: &Tables, index: u64, frame: &Frame<'_>, verdict: Verdic
 
 // The line of a record that is no frame.
 fn fault_line(index: u64, fault: NotFrame) -> Line
-    ensures { (rows : List Row) (marks : Lane → ℕ) (asked : Asked) → result ≡ line_under rows index marks asked (Err fault) }
+    ensures { (rows : List Row) (marks : Lane → ℕ) (asked : Asked)
+        → result ≡ line_under rows index marks asked (Err fault) }
 {
     Line {
         index,

@@ -1,5 +1,5 @@
-//! The audit of a recording: frames are judged one after the other under the rows of an installation, each with the marks and
-//! the challenges that those before it left, and each gives a line of the report.
+//! The audit of a recording: frames are judged one after the other under the rows of an installation, each with the
+//! marks and the challenges that those before it left, and each gives a line of the report.
 #![tactic(auto)]
 
 mod audit;

@@ -52,7 +52,8 @@ impl Marks {
 
     /// Makes the number the mark of a lane.
     pub(crate) fn raise(&mut self, lane: Lane, number: Number48) -> Result<(), NoMemory>
-        ensures raised { IsOk result → (other : Lane) → mark_in self.new other ≡ (if same_lane lane other then number else mark_in self.old other) }
+        ensures raised { IsOk result → (other : Lane) → mark_in self.new other
+            ≡ (if same_lane lane other then number else mark_in self.old other) }
         ensures unchanged { OnErr result (self.new ≡ self.old) }
     {
         match self.kept.insert(lane, number) {

@@ -53,8 +53,10 @@ impl Past {
     /// changed.
     pub(crate) fn take(&mut self, frame: &Frame<'_>, judgement: &Judgement) -> Result<(), NoMemory>
         requires ask_keeps_nothing { is_ask judgement.now.verdict ≡ true → judgement.now.keeps ≡ None }
-        ensures marks { IsOk result → (lane : Lane) → mark_in self.new.marks lane ≡ raised judgement.now.keeps lane (mark_in self.old.marks lane) }
-        ensures asked { OnOk result (asked_in self.new.asked ≡ exchanged (source_of (telegram frame.now)) (receiver_of (telegram frame.now)) judgement.now.verdict (asked_in self.old.asked)) }
+        ensures marks { IsOk result → (lane : Lane) → mark_in self.new.marks lane
+            ≡ raised judgement.now.keeps lane (mark_in self.old.marks lane) }
+        ensures asked { OnOk result (asked_in self.new.asked ≡ exchanged (source_of (telegram frame.now))
+            (receiver_of (telegram frame.now)) judgement.now.verdict (asked_in self.old.asked)) }
         ensures unchanged { OnErr result (self.new ≡ self.old) }
     {
         match judgement.verdict {
@@ -71,7 +73,8 @@ impl Past {
     }
 
     fn keep(&mut self, keeps: Option<(Lane, Number48)>) -> Result<(), NoMemory>
-        ensures marks { IsOk result → (lane : Lane) → mark_in self.new.marks lane ≡ raised keeps lane (mark_in self.old.marks lane) }
+        ensures marks { IsOk result → (lane : Lane) → mark_in self.new.marks lane
+            ≡ raised keeps lane (mark_in self.old.marks lane) }
         ensures asked { self.new.asked ≡ self.old.asked }
         ensures unchanged { OnErr result (self.new ≡ self.old) }
     {

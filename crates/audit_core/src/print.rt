@@ -2,7 +2,7 @@ ghost use Rattle.std.specs.Prelude.{◌≡◌, ℕ, ℤ, ◌+◌, ◌≤◌, ◌
 ghost use Rattle.std.specs.Fmt.{decimal};
 ghost use Rattle.knx_base.specs.Faults.{HasCause};
 ghost use Rattle.knx_base.specs.Sink.{Prints};
-ghost use Rattle.knx_base.specs.Address.{individual_text, group_text};
+ghost use Rattle.knx_base.specs.Address.{individual_text};
 ghost use Rattle.judge_rules.specs.Text.{verdict_text};
 ghost use Rattle.audit_core.specs.Text.{time_text, address_text, repeat_text, place_text, end_text, head_text, line_text};
 
@@ -11,8 +11,8 @@ use judge_rules::put_verdict;
 use knx_base::{Failed, GroupAddr, IndAddr, LineBuf, Sink, print_text};
 use secure_apdu::ApduBuf;
 
-/// Writes the line of a record, with the milliseconds since 1970-01-01T00:00:00Z at which it was recorded where they are known.
-/// `apdu` is the APDU that was opened, which the line of an accepted telegram shows.
+/// Writes the line of a record, with the milliseconds since 1970-01-01T00:00:00Z at which it was recorded where they
+/// are known. `apdu` is the APDU that was opened, which the line of an accepted telegram shows.
 pub fn print_line<S: Sink>(
     line: &Line,
     time: Option<i64>,
@@ -76,37 +76,18 @@ fn put_place(addresses: &Option<Addresses>, repeated: bool, line: &mut LineBuf)
 
 fn put_addresses(found: &Addresses, repeated: bool, line: &mut LineBuf)
     requires room { length line.old + 40 ≤ 1024 }
-    ensures added { line.new ≡ line.old ++ individual_text found.now.source.0 ++ codes " > " ++ address_text found.now.group found.now.destination ++ repeat_text repeated }
+    ensures added { line.new ≡ line.old ++ individual_text found.now.source.0 ++ codes " > "
+        ++ address_text found.now.group found.now.destination ++ repeat_text repeated }
     ensures short { length line.new ≤ length line.old + 40 }
 {
-    put_individual(found.source, line);
+    line.individual(found.source);
     line.text(" > ");
     if found.group {
-        put_group(GroupAddr(found.destination), line);
+        line.group(GroupAddr(found.destination));
     } else {
-        put_individual(IndAddr(found.destination), line);
+        line.individual(IndAddr(found.destination));
     }
     if repeated {
         line.text(" repeat");
     }
-}
-
-fn put_individual(address: IndAddr, line: &mut LineBuf)
-    requires room { length line.old + 12 ≤ 1024 }
-    ensures added { line.new ≡ line.old ++ individual_text address.0 }
-    ensures short { length line.new ≤ length line.old + 12 }
-{
-    let mut text = [0; 12];
-    let count = address.write_text(&mut text);
-    line.octets(&text[..count]);
-}
-
-fn put_group(address: GroupAddr, line: &mut LineBuf)
-    requires room { length line.old + 12 ≤ 1024 }
-    ensures added { line.new ≡ line.old ++ group_text address.0 }
-    ensures short { length line.new ≤ length line.old + 12 }
-{
-    let mut text = [0; 12];
-    let count = address.write_text(&mut text);
-    line.octets(&text[..count]);
 }

@@ -23,7 +23,12 @@ impl Model for Tally {
 
     ghost Value = { Total };
 
-    ghost view = { λ t. record { records = t.records; accepted = t.accepted; synchronised = t.synchronised; alarms = t.alarms } };
+    ghost view = { λ t. record {
+      records = t.records;
+      accepted = t.accepted;
+      synchronised = t.synchronised;
+      alarms = t.alarms;
+    } };
 
     ghost invariant = { λ t. (t.accepted ≤ t.records) × (t.synchronised ≤ t.records) × (t.alarms ≤ t.records) };
 }

@@ -65,19 +65,25 @@ fn a_number_is_stale_once_it_was_kept(rt: HostRuntime) -> Result<(), Fail> {
         (
             CONF,
             [TELEGRAM, TELEGRAM],
-            "1 1.1.7 > 1/2/3 accepted number 5 GroupValue_Write 0081\n2 1.1.7 > 1/2/3 stale kept 5 got 5 !\ntotal 2 accepted 1 sync 0 alarms 1\n",
+            "1 1.1.7 > 1/2/3 accepted number 5 GroupValue_Write 0081\n\
+             2 1.1.7 > 1/2/3 stale kept 5 got 5 !\n\
+             total 2 accepted 1 sync 0 alarms 1\n",
             1,
         ),
         (
             CONF,
             [TELEGRAM, REPETITION],
-            "1 1.1.7 > 1/2/3 accepted number 5 GroupValue_Write 0081\n2 1.1.7 > 1/2/3 repeat stale kept 5 got 5\ntotal 2 accepted 1 sync 0 alarms 0\n",
+            "1 1.1.7 > 1/2/3 accepted number 5 GroupValue_Write 0081\n\
+             2 1.1.7 > 1/2/3 repeat stale kept 5 got 5\n\
+             total 2 accepted 1 sync 0 alarms 0\n",
             0,
         ),
         (
             OBSERVE,
             [TELEGRAM, TELEGRAM],
-            "1 1.1.7 > 1/2/3 role needs command has observe !\n2 1.1.7 > 1/2/3 stale kept 5 got 5 !\ntotal 2 accepted 0 sync 0 alarms 2\n",
+            "1 1.1.7 > 1/2/3 role needs command has observe !\n\
+             2 1.1.7 > 1/2/3 stale kept 5 got 5 !\n\
+             total 2 accepted 0 sync 0 alarms 2\n",
             2,
         ),
     ];
@@ -101,7 +107,9 @@ fn a_readable_frame_is_accepted_where_its_group_allows(rt: HostRuntime) -> Resul
         (
             AUTH,
             [READABLE, TELEGRAM],
-            "1 1.1.7 > 1/2/3 accepted number 6 GroupValue_Write 0081\n2 1.1.7 > 1/2/3 stale kept 6 got 5 !\ntotal 2 accepted 1 sync 0 alarms 1\n",
+            "1 1.1.7 > 1/2/3 accepted number 6 GroupValue_Write 0081\n\
+             2 1.1.7 > 1/2/3 stale kept 6 got 5 !\n\
+             total 2 accepted 1 sync 0 alarms 1\n",
             1,
         ),
     ];

@@ -1,4 +1,5 @@
--- Why octets are no frame: tests in the order in which the octets stand, each with its fault. The first that applies is the fault.
+-- Why octets are no frame: tests in the order in which the octets stand, each with its fault. The first that applies is
+-- the fault.
 use Rattle.std.specs.Prelude.{ℕ, zero, suc, ◌+◌, ◌-◌, ◌/◌, ◌%◌, List, [], ◌∷◌, ◌++◌, length, slice_index, take, drop, Bool, true, false, ◌==◌, nat_lt, ◌||◌, if◌then◌else◌, Option, Some, None, is_some, unwrap_or}
 use Rattle.cemi_frames.specs.declared.frame.NotFrame.{NotFrame}
 use Rattle.cemi_frames.specs.declared.frame.NotFrame.TheVariants as faults
@@ -66,7 +67,8 @@ unfoldable pub data_tests : ℕ → List ℕ → List Refusal
 data_tests whole body =
     refuse (nat_lt (length body) 7) (faults.Short whole)
     ∷ refuse (slice_index body 6 == 255) faults.Escape
-    ∷ refuse (differ (length body - 7) (slice_index body 6 + 1)) (faults.Length (slice_index body 6 + 1) (length body - 7))
+    ∷ refuse (differ (length body - 7) (slice_index body 6 + 1))
+    (faults.Length (slice_index body 6 + 1) (length body - 7))
     ∷ []
 
 -- the last octet is the check octet of those before it
@@ -87,7 +89,8 @@ after_tests raw after size =
 unfoldable pub standard_tests : ℕ → List ℕ → List Refusal
 standard_tests whole raw =
     refuse (nat_lt (length raw) 6) (faults.Short whole)
-    ∷ refuse (differ (length raw - 6) (slice_index raw 5 % 16 + 2)) (faults.Length (slice_index raw 5 % 16 + 2) (length raw - 6))
+    ∷ refuse (differ (length raw - 6) (slice_index raw 5 % 16 + 2))
+    (faults.Length (slice_index raw 5 % 16 + 2) (length raw - 6))
     ∷ check_test raw
     ∷ []
 
@@ -111,12 +114,14 @@ unfoldable pub raw_tests : ℕ → List ℕ → List Refusal
 raw_tests whole raw =
     refuse (length raw == 0) (faults.Short whole)
     ∷ refuse (length raw == 1) (faults.Acknowledge (slice_index raw 0))
-    ∷ refuse (opposite (is_standard (slice_index raw 0) || is_extended (slice_index raw 0))) (faults.Format (slice_index raw 0))
+    ∷ refuse (opposite (is_standard (slice_index raw 0) || is_extended (slice_index raw 0)))
+    (faults.Format (slice_index raw 0))
     ∷ (if is_standard (slice_index raw 0) then standard_tests whole raw else extended_tests whole raw)
 
 abbrev pub body_tests : List ℕ → List Refusal
 body_tests octets =
-    if slice_index octets 0 == 0x2b then raw_tests (length octets) (body_of octets) else data_tests (length octets) (body_of octets)
+    if slice_index octets 0 == 0x2b then raw_tests (length octets) (body_of octets)
+    else data_tests (length octets) (body_of octets)
 
 -- the first refusal, if there is one
 unfoldable pub frame_fault : List ℕ → Option NotFrame

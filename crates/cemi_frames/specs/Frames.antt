@@ -16,11 +16,27 @@ pub record Telegram : Type 0 where
   pub content : List ℕ
 
 abbrev pub telegram : Frame → Telegram
-telegram frame = record { code = frame.code; repeated = frame.repeated; priority = frame.priority; control2 = frame.control2; source = frame.source.0; destination = frame.destination; content = frame.content.now }
+telegram frame = record {
+  code = frame.code;
+  repeated = frame.repeated;
+  priority = frame.priority;
+  control2 = frame.control2;
+  source = frame.source.0;
+  destination = frame.destination;
+  content = frame.content.now;
+}
 
 -- what the fields say under a message code
 abbrev pub said_by : Code → Bool → Fields → Telegram
-said_by code repeated f = record { code = code; repeated = repeated; priority = f.control / 4 % 4; control2 = f.control2; source = f.source; destination = f.destination; content = f.content }
+said_by code repeated f = record {
+  code = code;
+  repeated = repeated;
+  priority = f.control / 4 % 4;
+  control2 = f.control2;
+  source = f.source;
+  destination = f.destination;
+  content = f.content;
+}
 
 -- Bit 5 of the control octet is 0 in a repetition.
 abbrev pub repeat_mark : ℕ → Bool

@@ -12,10 +12,24 @@ abbrev pub word_at : List ℕ → ℕ → ℕ
 word_at octets place = slice_index octets place * 256 + slice_index octets (place + 1)
 
 abbrev pub long_fields : List ℕ → List ℕ → Fields
-long_fields body content = record { rows = []; control = slice_index body 0; control2 = slice_index body 1; source = word_at body 2; destination = word_at body 4; content = content }
+long_fields body content = record {
+  rows = [];
+  control = slice_index body 0;
+  control2 = slice_index body 1;
+  source = word_at body 2;
+  destination = word_at body 4;
+  content = content;
+}
 
 abbrev pub standard_fields : List ℕ → List ℕ → Fields
-standard_fields raw content = record { rows = []; control = slice_index raw 0; control2 = slice_index raw 5 / 16 * 16; source = word_at raw 1; destination = word_at raw 3; content = content }
+standard_fields raw content = record {
+  rows = [];
+  control = slice_index raw 0;
+  control2 = slice_index raw 5 / 16 * 16;
+  source = word_at raw 1;
+  destination = word_at raw 3;
+  content = content;
+}
 
 abbrev pub marked : Code → ℕ → Bool
 marked Req control = false
@@ -25,17 +39,27 @@ marked Busmon control = repeat_mark control
 
 -- the frame of these octets
 abbrev pub frame_from : Code → ℕ → ℕ → List ℕ → List ℕ → Telegram
-frame_from code control control2 addresses content = said_by code (marked code control) (record { rows = []; control = control; control2 = control2; source = word_at addresses 0; destination = word_at addresses 2; content = content })
+frame_from code control control2 addresses content = said_by code (marked code control)
+    (record {
+      rows = [];
+      control = control;
+      control2 = control2;
+      source = word_at addresses 0;
+      destination = word_at addresses 2;
+      content = content;
+    })
 
 -- the frame of a message of data
 abbrev pub data_frame : Code → List ℕ → Telegram
 data_frame code body = said_by code (marked code (slice_index body 0)) (long_fields body (drop 7 body))
 
 abbrev pub standard_frame : List ℕ → Telegram
-standard_frame raw = said_by Busmon (repeat_mark (slice_index raw 0)) (standard_fields raw (take (length raw - 7) (drop 6 raw)))
+standard_frame raw =
+    said_by Busmon (repeat_mark (slice_index raw 0)) (standard_fields raw (take (length raw - 7) (drop 6 raw)))
 
 abbrev pub extended_frame : List ℕ → Telegram
-extended_frame raw = said_by Busmon (repeat_mark (slice_index raw 0)) (long_fields raw (take (length raw - 8) (drop 7 raw)))
+extended_frame raw =
+    said_by Busmon (repeat_mark (slice_index raw 0)) (long_fields raw (take (length raw - 8) (drop 7 raw)))
 
 -- the frame of a raw frame
 unfoldable pub raw_frame : List ℕ → Telegram
@@ -56,7 +80,8 @@ frame_at octets = body_frame (code_at (slice_index octets 0)) (body_of octets)
 
 -- where its content begins
 abbrev pub content_place : List ℕ → ℕ
-content_place octets = body_place octets + (if slice_index octets 0 == 0x2b && is_standard (slice_index (body_of octets) 0) then 6 else 7)
+content_place octets =
+    body_place octets + (if slice_index octets 0 == 0x2b && is_standard (slice_index (body_of octets) 0) then 6 else 7)
 
 -- The content is this part of the octets.
 abbrev pub StandsAt : List ℕ → ℕ → List ℕ → Type 0
@@ -74,4 +99,5 @@ IsMisfit info = (place : ℕ) → misfit (length info) place info ≡ Some place
 pub record FitsRow (info : List ℕ) (size : ℕ) : Type 0 where
   pub not_empty : 0 < size
   pub within : size ≤ length info
-  pub goes_on : (place : ℕ) → misfit (length info) place info ≡ misfit (length (drop size info)) (place + size) (drop size info)
+  pub goes_on : (place : ℕ) → misfit (length info) place info
+      ≡ misfit (length (drop size info)) (place + size) (drop size info)

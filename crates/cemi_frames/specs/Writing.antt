@@ -49,7 +49,8 @@ data_octets parts = message 0x29 [] (long_octets (fields_of parts))
 abbrev pub raw_octets : Parts → List ℕ
 raw_octets parts =
     message 0x2b []
-    (checked (if is_short (length parts.content) then standard_octets (fields_of parts) else long_octets (fields_of parts)))
+    (checked (if is_short (length parts.content) then standard_octets (fields_of parts)
+    else long_octets (fields_of parts)))
 
 -- the frame that these octets are
 abbrev pub written_frame : Code → Parts → Telegram

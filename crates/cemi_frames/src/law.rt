@@ -7,5 +7,6 @@ ghost use Rattle.cemi_frames.specs.Law.{HasOneAnswer, IsFirstMisfit, info_of};
 pub fn one_frame_or_one_fault()
     ensures one { (octets : List ℕ) → AreOctets octets → HasOneAnswer octets }
     // The place of a row that does not fit is that of the first one.
-    ensures first { (octets : List ℕ) (place : ℕ) → info_misfit octets ≡ Some place → IsFirstMisfit (info_of octets) 2 place }
+    ensures first { (octets : List ℕ) (place : ℕ) → info_misfit octets ≡ Some place
+        → IsFirstMisfit (info_of octets) 2 place }
 {}

@@ -33,8 +33,8 @@ pub fn write_ldata(parts: &FrameParts<'_>, out: &mut [u8]) -> usize
     put(parts.content, after, out)
 }
 
-/// Writes an L_Busmon.ind message to the front of `out`, with a raw frame of low priority and hop count 6: a standard one
-/// for up to 16 octets of content, else an extended one. Returns its length.
+/// Writes an L_Busmon.ind message to the front of `out`, with a raw frame of low priority and hop count 6: a standard
+/// one for up to 16 octets of content, else an extended one. Returns its length.
 pub fn write_busmon(parts: &FrameParts<'_>, out: &mut [u8]) -> usize
     requires not_empty { 0 < length parts.now.content.now }
     requires fits { length parts.now.content.now ≤ 255 }

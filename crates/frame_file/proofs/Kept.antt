@@ -5,7 +5,8 @@ use Rattle.frame_file.specs.Reader.{ReaderState, Advances}
 use Rattle.frame_file.specs.declared.fault.RecordFault.{RecordFault}
 use Rattle.frame_file.specs.declared.fault.RecordFault.TheVariants.{Line, LongLine, TooMany, ReadFault, NoMemory}
 
-pub advances_kept : (seen later : Seen) (old new : ReaderState) (result : Result Bool RecordFault) → Advances seen later old new result → result ≢ Err ReadFault
+pub advances_kept : (seen later : Seen) (old new : ReaderState) (result : Result Bool RecordFault)
+    → Advances seen later old new result → result ≢ Err ReadFault
     → later.faults ≡ seen.faults
 advances_kept seen later old new (Ok true) gives other = gives.goes.no_fault
 advances_kept seen later old new (Ok false) ends other = ends.goes.no_fault

@@ -1,4 +1,5 @@
--- The answers of a call for the next record, and the state that its value ends as, since the record is borrowed from it.
+-- The answers of a call for the next record, and the state that its value ends as, since the record is borrowed from
+-- it.
 use Rattle.std.specs.Prelude.{◌≡◌, Option, Some, None, Result, Ok, Err, ⊤}
 use Rattle.std.specs.Borrow.{follows_so, MutBor, Fml}
 use mathlib.Core.Option.{none}
@@ -9,7 +10,8 @@ use Rattle.frame_file.specs.declared.records.Record.{Record}
 use Rattle.frame_file.specs.contracts.records.Records.{the_row}
 
 abbrev pub Gives : Seen → Seen → RecordsState → RecordsState → Result (Option Record) RecordFault → Type 0
-Gives seen later old new (Ok (Some found)) = TakesRecord seen later old new found.number found.octets.now × (found.time ≡ None)
+Gives seen later old new (Ok (Some found)) =
+    TakesRecord seen later old new found.number found.octets.now × (found.time ≡ None)
 Gives seen later old new (Ok None) = Ends seen later old new
 Gives seen later old new (Err fault) = Fails seen later old new fault
 

@@ -27,7 +27,8 @@ pub record Ends (seen later : Seen) (old new : RecordsState) : Type 0 where
   pub still_none : new.fault ≡ None
   pub ends : FindsEnd seen later old.reader new.reader
 
--- A fault is answered, and from now on. It was answered before and nothing is asked, or the list is refused by it here, or the files failed.
+-- A fault is answered, and from now on. It was answered before and nothing is asked, or the list is refused by it here,
+-- or the files failed.
 pub record Fails (seen later : Seen) (old new : RecordsState) (fault : RecordFault) : Type 0 where
   pub kept : new.fault ≡ Some fault
   pub cause : (old.fault ≡ Some fault) ⊎ ((old.fault ≡ None) × Refuses seen later old.reader fault)
@@ -36,6 +37,7 @@ pub record Fails (seen later : Seen) (old new : RecordsState) (fault : RecordFau
 
 -- whether there is one more record
 abbrev pub Goes : Seen → Seen → RecordsState → RecordsState → Result Bool RecordFault → Type 0
-Goes seen later old new (Ok true) = (old.fault ≡ None) × (new.fault ≡ None) × GivesRecord seen later old.reader new.reader
+Goes seen later old new (Ok true) =
+    (old.fault ≡ None) × (new.fault ≡ None) × GivesRecord seen later old.reader new.reader
 Goes seen later old new (Ok false) = Ends seen later old new
 Goes seen later old new (Err fault) = Fails seen later old new fault

@@ -17,7 +17,8 @@ pub record ReaderState : Type 0 where
   pub held : List ℕ
   pub octets : List ℕ
 
--- The file is current and was read by this reader alone: no line is shorter than an octet, so the lines are no more than the octets that were taken.
+-- The file is current and was read by this reader alone: no line is shorter than an octet, so the lines are no more
+-- than the octets that were taken.
 pub record IsAt (seen : Seen) (state : ReaderState) : Type 0 where
   pub current : IsSome seen.current
   pub counted : state.lines + length state.held ≤ seen.place
@@ -60,7 +61,8 @@ abbrev pub IsOfText : RecordFault → Type 0
 IsOfText ReadFault = ⊥
 IsOfText fault = Unit {0}
 
--- What a fault leaves: the files tell the same, no record was given, and unless the files failed the current file was read on, and no other.
+-- What a fault leaves: the files tell the same, no record was given, and unless the files failed the current file was
+-- read on, and no other.
 pub record Leaves (seen later : Seen) (old new : ReaderState) (fault : RecordFault) : Type 0 where
   pub told : later.told ≡ seen.told
   pub counted : new.given ≡ old.given
@@ -78,12 +80,14 @@ Advances seen later old new (Err fault) = Refuses seen later old fault × Leaves
 pub record SaysRecord (old new : ReaderState) (line : List ℕ) : Type 0 where
   pub counted : new.given ≡ old.given + 1
   pub few : new.given ≤ most_records
-  pub list : (rest : List (List ℕ)) → records_from old.lines old.given (line ∷ rest) ≡ with_record new.octets (records_from new.lines new.given rest)
+  pub list : (rest : List (List ℕ)) → records_from old.lines old.given (line ∷ rest)
+      ≡ with_record new.octets (records_from new.lines new.given rest)
 
 -- a line said nothing
 pub record SaysNothing (old new : ReaderState) (line : List ℕ) : Type 0 where
   pub counted : new.given ≡ old.given
-  pub list : (rest : List (List ℕ)) → records_from old.lines old.given (line ∷ rest) ≡ records_from new.lines new.given rest
+  pub list : (rest : List (List ℕ)) → records_from old.lines old.given (line ∷ rest)
+      ≡ records_from new.lines new.given rest
 
 -- a line was refused
 pub record SaysFault (old new : ReaderState) (line : List ℕ) (fault : RecordFault) : Type 0 where

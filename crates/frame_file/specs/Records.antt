@@ -68,14 +68,16 @@ records_in (Err fault) = 0
 -- the list from a line of this number on, where so many records stand before it
 abbrev pub from_line : ℕ → ℕ → Result (Option (List ℕ)) Cause → RecordList → RecordList
 from_line number before (Ok None) rest = rest
-from_line number before (Ok (Some octets)) rest = if nat_lt before most_records then with_record octets rest else refused_by (TooMany number)
+from_line number before (Ok (Some octets)) rest =
+    if nat_lt before most_records then with_record octets rest else refused_by (TooMany number)
 from_line number before (Err fault) rest = refused_by (refusal_of number fault)
 
 -- the list that these lines say, where so many lines and records stand before them
 abbrev pub records_from : ℕ → ℕ → List (List ℕ) → RecordList
 records_from lines_before before [] = no_records
 records_from lines_before before (line ∷ rest) =
-    from_line (lines_before + 1) before (record_of line) (records_from (lines_before + 1) (before + records_in (record_of line)) rest)
+    from_line (lines_before + 1) before (record_of line) (records_from (lines_before + 1)
+    (before + records_in (record_of line)) rest)
 
 -- the list of a file with these octets
 abbrev pub records_of : List ℕ → RecordList

@@ -61,7 +61,8 @@ impl Reader {
     /// Reads on to the next record. The answer is whether there is one.
     pub(crate) fn advance<F: Files>(&mut self, files: &mut F) -> Result<bool, RecordFault>
         requires at { IsAt (F.seen files.old) (state_of self.old) }
-        ensures advances { Advances (F.seen files.old) (F.seen files.new) (state_of self.old) (state_of self.new) result }
+        ensures advances { Advances (F.seen files.old) (F.seen files.new) (state_of self.old) (state_of self.new)
+            result }
         ensures later { (F.seen files.old).faults ≤ (F.seen files.new).faults }
     {
         'lines: loop {

@@ -15,7 +15,8 @@ pub struct Record<'a> {
 }
 
 /// The records of the current file, a list of frames: each line is the octets of one in hexadecimal, and a line without
-/// words or whose first word begins with `#` is skipped. The file is read in pieces, and the value has room for one line.
+/// words or whose first word begins with `#` is skipped. The file is read in pieces, and the value has room for one
+/// line.
 ///
 /// A contract sees how far it is, and the fault that is answered from now on, if there is one.
 #[derive(Drop)]
@@ -41,7 +42,15 @@ impl Records {
 
     /// Ready for a file that was opened and of which nothing was read.
     pub fn new(_alloc: Global) -> Result<Records, NoMemory>
-        ensures start { IfOk result (λ records. records ≡ record { reader = record { lines = 0; given = 0; held = []; octets = [] }; fault = None }) }
+        ensures start { IfOk result (λ records. records ≡ record {
+          reader = record {
+            lines = 0;
+            given = 0;
+            held = [];
+            octets = [];
+          };
+          fault = None;
+        }) }
     {
         Ok(Records {
             reader: Reader::new(),
@@ -52,7 +61,8 @@ impl Records {
     /// The next record, or `None` at the end of the file. After a fault that fault is answered again.
     pub fn next<F: Files>(&mut self, files: &mut F) -> Result<Option<Record<'_>>, RecordFault>
         requires reading { IsReading (F.seen files.old) self.old }
-        ensures* gives { sem 𝓛 (EndsSo self.entry (λ new. Gives (F.seen files.old) (F.seen files.new) self.old new result)) }
+        ensures* gives { sem 𝓛 (EndsSo self.entry (λ new. Gives (F.seen files.old) (F.seen files.new) self.old new
+            result)) }
         ensures kept { result ≢ Err RecordFault.ReadFault → (F.seen files.new).faults ≡ (F.seen files.old).faults }
         ensures later { (F.seen files.old).faults ≤ (F.seen files.new).faults }
     {

@@ -15,7 +15,8 @@ none_passes : {A : Type 0} (p : A → Bool) (xs : List A) (k : ℕ) (d : A) → 
 none_passes p xs k d within none =
     never_true (p (slice_index_or xs k d)) (λ passes. true≢false (sym (list_any_at p xs k d within passes) ∙ none))
 
-one_more : (before : List ObjectRow) (row : ObjectRow) → list_any (is_of row.group) before ≡ false → NoneTwice before → NoneTwice (before ++ row ∷ [])
+one_more : (before : List ObjectRow) (row : ObjectRow) → list_any (is_of row.group) before ≡ false → NoneTwice before
+    → NoneTwice (before ++ row ∷ [])
 one_more before row new apart =
     all_pairs_push (λ earlier later. is_of later.group earlier ≡ false) before row apart
     (λ k d within. none_passes (is_of row.group) before k d within new)
@@ -24,12 +25,15 @@ one_more before row new apart =
 
 module _ (before rows : List ObjectRow) (row : ObjectRow) (apart : NoneTwice before) where
   goes_on : (b : Bool) → list_any (is_of row.group) before ≡ b
-      → (NoneTwice (before ++ row ∷ []) → first_twice (before ++ row ∷ []) rows ≡ None → NoneTwice ((before ++ row ∷ []) ++ rows))
+      → (NoneTwice (before ++ row ∷ []) → first_twice (before ++ row ∷ []) rows ≡ None
+      → NoneTwice ((before ++ row ∷ []) ++ rows))
       → cond b (Some (length before)) (first_twice (before ++ row ∷ []) rows) ≡ None → NoneTwice (before ++ row ∷ rows)
   goes_on true again later none = absurd cc
-  goes_on false new later none = subst NoneTwice (append_assoc before (row ∷ []) rows) (later (one_more before row new apart) none)
+  goes_on false new later none =
+      subst NoneTwice (append_assoc before (row ∷ []) rows) (later (one_more before row new apart) none)
 
-none_after : (before rows : List ObjectRow) → NoneTwice before → first_twice before rows ≡ None → NoneTwice (before ++ rows)
+none_after : (before rows : List ObjectRow) → NoneTwice before → first_twice before rows ≡ None
+    → NoneTwice (before ++ rows)
 none_after before [] apart none = subst NoneTwice (sym (append-nil before)) apart
 none_after before (row ∷ rows) apart none =
     goes_on before rows row apart (list_any (is_of row.group) before) refl (none_after (before ++ row ∷ []) rows) none
@@ -57,16 +61,22 @@ module _ (before rows : List ObjectRow) (row : ObjectRow) (apart : NoneTwice bef
   }
 
   here_or_later : (place : ℕ) (b : Bool) → list_any (is_of row.group) before ≡ b
-      → (NoneTwice (before ++ row ∷ []) → first_twice (before ++ row ∷ []) rows ≡ Some place → IsFirstTwice ((before ++ row ∷ []) ++ rows) place)
-      → cond b (Some (length before)) (first_twice (before ++ row ∷ []) rows) ≡ Some place → IsFirstTwice (before ++ row ∷ rows) place
-  here_or_later place true again later found = subst (IsFirstTwice (before ++ row ∷ rows)) (ap (λ found. unwrap_or found 0) found) (is_here again)
+      → (NoneTwice (before ++ row ∷ []) → first_twice (before ++ row ∷ []) rows ≡ Some place
+      → IsFirstTwice ((before ++ row ∷ []) ++ rows) place)
+      → cond b (Some (length before)) (first_twice (before ++ row ∷ []) rows) ≡ Some place
+      → IsFirstTwice (before ++ row ∷ rows) place
+  here_or_later place true again later found =
+      subst (IsFirstTwice (before ++ row ∷ rows)) (ap (λ found. unwrap_or found 0) found) (is_here again)
   here_or_later place false new later found =
-      subst (λ all. IsFirstTwice all place) (append_assoc before (row ∷ []) rows) (later (one_more before row new apart) found)
+      subst (λ all. IsFirstTwice all place) (append_assoc before (row ∷ []) rows)
+      (later (one_more before row new apart) found)
 
-first_after : (before rows : List ObjectRow) (place : ℕ) → NoneTwice before → first_twice before rows ≡ Some place → IsFirstTwice (before ++ rows) place
+first_after : (before rows : List ObjectRow) (place : ℕ) → NoneTwice before → first_twice before rows ≡ Some place
+    → IsFirstTwice (before ++ rows) place
 first_after before [] place apart found = absurd cc
 first_after before (row ∷ rows) place apart found =
-    here_or_later before rows row apart place (list_any (is_of row.group) before) refl (first_after (before ++ row ∷ []) rows place) found
+    here_or_later before rows row apart place (list_any (is_of row.group) before) refl
+    (first_after (before ++ row ∷ []) rows place) found
 
 pub is_first_twice : (rows : List ObjectRow) (place : ℕ) → first_twice [] rows ≡ Some place → IsFirstTwice rows place
 is_first_twice rows place found = first_after [] rows place (λ i j d below within. absurd (omega (arith, within))) found

@@ -120,8 +120,8 @@ impl Objects {
         Some(*self.values.get(index)?)
     }
 
-    /// What an application PDU of the object's group does to it, as `ObjectRow::accepts` says it. There is such an object,
-    /// and the PDU has 2 to 242 octets, zero upper bits and a service of group values.
+    /// What an application PDU of the object's group does to it, as `ObjectRow::accepts` says it. There is such an
+    /// object, and the PDU has 2 to 242 octets, zero upper bits and a service of group values.
     pub fn accepts(&self, index: usize, apdu: &[u8]) -> Result<Effect, BadObject>
         requires there { index < length self.now.rows }
         requires group { IsGroupApdu apdu.now }

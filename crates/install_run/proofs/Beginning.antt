@@ -57,16 +57,19 @@ none_of : {A : Type 0} (o : Option A) → is_some o ≡ false → o ≡ None
 none_of None is = refl
 none_of (Some x) is = absurd (cc)
 
-few_lanes : (n : ℕ) (over : Bool) → nat_lt most_lanes n ≡ over → n ≤ most_lanes → (if over then Some (Lanes n) else None) ≡ None
+few_lanes : (n : ℕ) (over : Bool) → nat_lt most_lanes n ≡ over → n ≤ most_lanes
+    → (if over then Some (Lanes n) else None) ≡ None
 few_lanes n true is few = absurd (grind (arith, nat_tests, is, few))
 few_lanes n false is few = refl
 
-stands : (rows : List Row) (node : NodeRow) → RowsStand rows → IsNode rows node → config_fault (configured node.address rows node.objects) ≡ None
+stands : (rows : List Row) (node : NodeRow) → RowsStand rows → IsNode rows node
+    → config_fault (configured node.address rows node.objects) ≡ None
 stands rows node stand is =
     let any : position is_any rows ≡ None = none_of (position is_any rows) (there_where is_any rows ∙ stand.named) in
     let lanes : lanes_fault (length (configured node.address rows node.objects).lanes) ≡ None
     = few_lanes (length (configured node.address rows node.objects).lanes) _ refl is.lanes in
-    (λ i. option_or (option_map Any (any i)) (option_or (option_map Rows (stand.stand i)) (option_or (option_map Objects (is.objects i)) (lanes i))))
+    (λ i. option_or (option_map Any (any i)) (option_or (option_map Rows (stand.stand i))
+    (option_or (option_map Objects (is.objects i)) (lanes i))))
 
 -- so it is refused for want of memory alone
 by_memory : (fault : ConfigFault) → IsConfigFault fault None → fault ≡ NoMemory
@@ -78,17 +81,21 @@ by_memory NoMemory is = refl
 
 pub refused_by_memory : (rows : List Row) (node : NodeRow) (fault : ConfigFault) → RowsStand rows → IsNode rows node
     → IsConfigFault fault (config_fault (configured node.address rows node.objects)) → fault ≡ NoMemory
-refused_by_memory rows node fault stand is found = by_memory fault (subst (IsConfigFault fault) (stands rows node stand is) found)
+refused_by_memory rows node fault stand is found =
+    by_memory fault (subst (IsConfigFault fault) (stands rows node stand is) found)
 
 -- ---- a node over a formatted memory
 
-holds : (row : NodeRow) (lanes : ℕ) (memory : State) → IsFormatted row memory → length row.marks ≡ lanes → numbers_in lanes memory.octets ≡ first_numbers row
+holds : (row : NodeRow) (lanes : ℕ) (memory : State) → IsFormatted row memory → length row.marks ≡ lanes
+    → numbers_in lanes memory.octets ≡ first_numbers row
 holds row lanes memory is each =
-    subst (λ n. numbers_in n memory.octets ≡ first_numbers row) each ((has_its_numbers memory.octets).those (first_numbers row) is.restores)
+    subst (λ n. numbers_in n memory.octets ≡ first_numbers row) each
+    ((has_its_numbers memory.octets).those (first_numbers row) is.restores)
 
 pub formatted_sound : (row : NodeRow) (lanes : ℕ) (memory : State) → IsFormatted row memory → length row.marks ≡ lanes
     → RestoresNumbers (numbers_in lanes memory.octets) memory.octets
-formatted_sound row lanes memory is each = subst (λ n. RestoresNumbers n memory.octets) (sym (holds row lanes memory is each)) is.restores
+formatted_sound row lanes memory is each =
+    subst (λ n. RestoresNumbers n memory.octets) (sym (holds row lanes memory is each)) is.restores
 
 pub first_is : (rows : List Row) (row : NodeRow) (config : ConfigState) (memory : State) (node : NodeState SimNvm)
     → config ≡ configured row.address rows row.objects → length row.marks ≡ length config.lanes → IsFormatted row memory
@@ -96,8 +103,10 @@ pub first_is : (rows : List Row) (row : NodeRow) (config : ConfigState) (memory 
     → at_node_state node ≡ first_node rows row
 first_is rows row config memory node config_is each formatted started_is same =
     let numbers = holds row (length config.lanes) memory formatted each in
-    let standing : standing_of node.running node.standing ≡ Some (started (configured row.address rows row.objects) (first_numbers row))
-    = ap (λ running. standing_of running node.standing) started_is.runs ∙ ap Some (started_is.standing_is ∙ (λ i. started (config_is i) (numbers i))) in
+    let standing : standing_of node.running node.standing ≡ Some
+    (started (configured row.address rows row.objects) (first_numbers row))
+    = ap (λ running. standing_of running node.standing) started_is.runs
+    ∙ ap Some (started_is.standing_is ∙ (λ i. started (config_is i) (numbers i))) in
     λ i. record {
       config = (started_is.config_is ∙ config_is) i;
       standing = standing i;
@@ -108,29 +117,35 @@ first_is rows row config memory node config_is each formatted started_is same =
 
 -- ---- the whole installation
 
-no_entries : (rows : List Row) (nodes : List NodeRow) (place : ℕ) → (place_in (map (first_place rows) nodes) place).journal ≡ []
+no_entries : (rows : List Row) (nodes : List NodeRow) (place : ℕ)
+    → (place_in (map (first_place rows) nodes) place).journal ≡ []
 no_entries rows [] place = refl
 no_entries rows (node ∷ nodes) zero = refl
 no_entries rows (node ∷ nodes) (suc place) = no_entries rows nodes place
 
-first_nodes : (rows : List Row) (nodes : List NodeRow) → map node_of (map (first_place rows) nodes) ≡ map (first_node rows) nodes
+first_nodes : (rows : List Row) (nodes : List NodeRow) → map node_of (map (first_place rows) nodes)
+    ≡ map (first_node rows) nodes
 first_nodes rows [] = refl
 first_nodes rows (node ∷ nodes) = ap (λ rest. first_node rows node ∷ rest) (first_nodes rows nodes)
 
-first_counts : (rows : List Row) (nodes : List NodeRow) → map counts_of (map (first_place rows) nodes) ≡ map zero_counts nodes
+first_counts : (rows : List Row) (nodes : List NodeRow) → map counts_of (map (first_place rows) nodes)
+    ≡ map zero_counts nodes
 first_counts rows [] = refl
 first_counts rows (node ∷ nodes) = ap (λ rest. no_counts ∷ rest) (first_counts rows nodes)
 
-pub first_stands : (rows : List Row) (nodes : List NodeRow) (places : List PlaceAt) (air : List TelegramAt) (history : List Step)
+pub first_stands : (rows : List Row) (nodes : List NodeRow) (places : List PlaceAt) (air : List TelegramAt)
+    (history : List Step)
     → places ≡ map (first_place rows) nodes → air ≡ [] → history ≡ [] → IsWorld places air history
 first_stands rows nodes places air history places_are no_air no_steps = record {
   journals = record {
-    each = λ place _. ap (λ ps. (place_in ps place).journal) places_are ∙ no_entries rows nodes place ∙ ap (journal_of place) (sym no_steps);
+    each = λ place _. ap (λ ps. (place_in ps place).journal) places_are ∙ no_entries rows nodes place
+        ∙ ap (journal_of place) (sym no_steps);
   };
   few = subst (λ a. length a ≤ length history) (sym no_air) (omega arith);
 }
 
-pub is_first : (rows kept : List Row) (nodes copied : List NodeRow) (places : List PlaceAt) (air : List TelegramAt) (history : List Step)
+pub is_first : (rows kept : List Row) (nodes copied : List NodeRow) (places : List PlaceAt) (air : List TelegramAt)
+    (history : List Step)
     → kept ≡ rows → copied ≡ nodes → places ≡ map (first_place rows) nodes → air ≡ [] → history ≡ []
     → IsFirst rows nodes (world_state kept copied places air history)
 is_first rows kept nodes copied places air history rows_are nodes_are places_are no_air no_steps = record {
@@ -143,11 +158,14 @@ is_first rows kept nodes copied places air history rows_are nodes_are places_are
 
 -- ---- the events of the script
 
-pub events_fit : (rows : List Row) (nodes : List NodeRow) (events : List Event) (w : WorldState) → IsScript rows nodes events
+pub events_fit : (rows : List Row) (nodes : List NodeRow) (events : List Event) (w : WorldState)
+    → IsScript rows nodes events
     → length w.world.nodes ≡ length nodes → All (IsEvent (length w.world.nodes)) events
 events_fit rows nodes events w script size = subst (λ n. All (IsEvent n) events) (sym size) script.events_stand
 
-pub few_events : (rows : List Row) (nodes : List NodeRow) (events : List Event) (w : WorldState) → IsScript rows nodes events
+pub few_events : (rows : List Row) (nodes : List NodeRow) (events : List Event) (w : WorldState)
+    → IsScript rows nodes events
     → IsFirst rows nodes w → length w.history + length events < 2 ^ 32
 few_events rows nodes events w script first =
-    let none : length w.history ≡ 0 = ap length first.no_steps in let few = script.events_few in omega (arith, none, few)
+    let none : length w.history ≡ 0 =
+    ap length first.no_steps in let few = script.events_few in omega (arith, none, few)

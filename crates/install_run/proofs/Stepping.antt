@@ -27,7 +27,8 @@ same_place : {a b : ℕ} → Some a ≡ Some b → a ≡ b
 same_place is = ap (λ o. unwrap_or o 0) is
 
 -- the journal at a place, where the entries were added to this one's
-journal_by : (q place : ℕ) (places : List PlaceAt) (new : PlaceAt) (added : List Entry) (same : Bool) → (q == place) ≡ same → place < length places
+journal_by : (q place : ℕ) (places : List PlaceAt) (new : PlaceAt) (added : List Entry) (same : Bool)
+    → (q == place) ≡ same → place < length places
     → new.journal ≡ (place_in places place).journal ++ added
     → (place_in (set places place new) q).journal ≡ (place_in places q).journal ++ (if same then added else [])
 journal_by q place places new added true is in_range noted =
@@ -43,37 +44,48 @@ few_more : (sent : Bool) (out : List ℕ) → length (telegrams_of sent out) ≤
 few_more true out = omega arith
 few_more false out = omega arith
 
-pub node_turned : (e : Event) (places : List PlaceAt) (air air' : List TelegramAt) (place : ℕ) (said : StepOutcome) (new : PlaceAt) (out : List ℕ)
+pub node_turned : (e : Event) (places : List PlaceAt) (air air' : List TelegramAt) (place : ℕ) (said : StepOutcome)
+    (new : PlaceAt) (out : List ℕ)
     → place < length places → place_of e ≡ Some place → IsTakenBy e air (place_in places place).node said new.node out
-    → HasStopCause said (place_in places place).counts new.counts → new.journal ≡ (place_in places place).journal ++ entries_of e said
+    → HasStopCause said (place_in places place).counts new.counts → new.journal ≡ (place_in places place).journal
+    ++ entries_of e said
     → air' ≡ air ++ telegrams_of (has_telegram said) out → IsTurned e places air said (set places place new) air'
 node_turned e places air air' place said new out in_range at taken cause noted sent =
     let w = world_in places air in
-    let here : node_in w place ≡ (place_in places place).node = get_or-map node_of places place no_place no_node in_range in
+    let here : node_in w place ≡ (place_in places place).node =
+    get_or-map node_of places place no_place no_node in_range in
     let t : IsTakenIn (turn_of e w) w place said new.node out = taken.in_each w place at here refl in
     record {
       outcome_is = t.outcome_is;
-      world_is = λ i. record { nodes = (map-set node_of places place new ∙ sym t.nodes_are) i; air = (sent ∙ sym t.air_is) i };
+      world_is =
+          λ i. record { nodes = (map-set node_of places place new ∙ sym t.nodes_are) i; air = (sent ∙ sym t.air_is) i };
       cause = λ q at_q.
           let q_is : place ≡ q = same_place (sym at ∙ at_q) in
           subst (λ q. HasStopCause said (place_in places q).counts (place_in (set places place new) q).counts) q_is
-          (subst (λ (p : PlaceAt). HasStopCause said (place_in places place).counts p.counts) (sym (get_or-set_same places place new no_place in_range)) cause);
+          (subst (λ (p : PlaceAt). HasStopCause said (place_in places place).counts p.counts)
+          (sym (get_or-set_same places place new no_place in_range)) cause);
       journals = λ q below. journal_by q place places new (entries_of e said) (q == place) refl in_range noted
-          ∙ ap (λ (o : Option ℕ). (place_in places q).journal ++ (if is_at q o then entries_of e said else [])) (sym at);
+          ∙ ap (λ (o : Option ℕ). (place_in places q).journal ++ (if is_at q o then entries_of e said else []))
+          (sym at);
       size = length-set places place new;
-      one_more = let few = few_more (has_telegram said) out in rw sent (omega (arith, length-append air (telegrams_of (has_telegram said) out), few));
+      one_more = let few = few_more (has_telegram said) out in
+          rw sent (omega (arith, length-append air (telegrams_of (has_telegram said) out), few));
     }
 
 -- ---- a step
 
-journal-append : (place : ℕ) (steps more : List Step) → journal_of place (steps ++ more) ≡ journal_of place steps ++ journal_of place more
+journal-append : (place : ℕ) (steps more : List Step) → journal_of place (steps ++ more) ≡ journal_of place steps
+    ++ journal_of place more
 journal-append place [] more = refl
 journal-append place (s ∷ steps) more =
     let here = (if is_at place (place_of s.event) then entries_of s.event s.outcome else []) in
-    ap (λ rest. here ++ rest) (journal-append place steps more) ∙ sym (append_assoc here (journal_of place steps) (journal_of place more))
+    ap (λ rest. here ++ rest) (journal-append place steps more)
+    ∙ sym (append_assoc here (journal_of place steps) (journal_of place more))
 
-pub stays_world : (e : Event) (places new : List PlaceAt) (air air' : List TelegramAt) (history : List Step) (said : StepOutcome)
-    → IsWorld places air history → IsTurned e places air said new air' → IsWorld new air' (history ++ record { event = e; outcome = said } ∷ [])
+pub stays_world : (e : Event) (places new : List PlaceAt) (air air' : List TelegramAt) (history : List Step)
+    (said : StepOutcome)
+    → IsWorld places air history → IsTurned e places air said new air'
+    → IsWorld new air' (history ++ record { event = e; outcome = said } ∷ [])
 stays_world e places new air air' history said before turned =
     let step : Step = record { event = e; outcome = said } in
     record {
@@ -84,36 +96,46 @@ stays_world e places new air air' history said before turned =
             ∙ (λ i. before.journals.each place below i ++ sym (append-nil (entries_at place e said)) i)
             ∙ sym (journal-append place history (step ∷ []));
       };
-      few = let one_more = turned.one_more in let few = before.few in omega (arith, length-append history (step ∷ []), one_more, few);
+      few = let one_more = turned.one_more in let few = before.few in
+          omega (arith, length-append history (step ∷ []), one_more, few);
     }
 
-pub stepped : (rows : List Row) (nodes : List NodeRow) (e : Event) (places new : List PlaceAt) (air air' : List TelegramAt) (history : List Step) (said : StepOutcome)
+pub stepped : (rows : List Row) (nodes : List NodeRow) (e : Event) (places new : List PlaceAt)
+    (air air' : List TelegramAt) (history : List Step) (said : StepOutcome)
     → IsTurned e places air said new air'
-    → IsStepped e (world_state rows nodes places air history) (world_state rows nodes new air' (history ++ record { event = e; outcome = said } ∷ []))
+    → IsStepped e (world_state rows nodes places air history)
+    (world_state rows nodes new air' (history ++ record { event = e; outcome = said } ∷ []))
 stepped rows nodes e places new air air' history said turned = record {
   after_is = turned.world_is;
   noted = λ i. history ++ record { event = e; outcome = turned.outcome_is i } ∷ [];
   cause = λ place at.
-      let old_is : counts_at (map counts_of places) place ≡ (place_in places place).counts = map-get_or counts_of places place no_place in
-      let new_is : counts_at (map counts_of new) place ≡ (place_in new place).counts = map-get_or counts_of new place no_place in
-      rw (old_is, new_is) (subst (λ said. HasStopCause said (place_in places place).counts (place_in new place).counts) turned.outcome_is (turned.cause place at));
+      let old_is : counts_at (map counts_of places) place ≡ (place_in places place).counts =
+      map-get_or counts_of places place no_place in
+      let new_is : counts_at (map counts_of new) place ≡ (place_in new place).counts =
+      map-get_or counts_of new place no_place in
+      rw (old_is, new_is) (subst (λ said. HasStopCause said (place_in places place).counts (place_in new place).counts)
+      turned.outcome_is (turned.cause place at));
 }
 
 -- ---- steps in turn
 
-after-more : (events : List Event) (e : Event) (w : WorldAt) → world_after (events ++ e ∷ []) w ≡ after e (world_after events w)
+after-more : (events : List Event) (e : Event) (w : WorldAt)
+    → world_after (events ++ e ∷ []) w ≡ after e (world_after events w)
 after-more [] e w = refl
 after-more (first ∷ events) e w = after-more events e (after first w)
 
-history-more : (events : List Event) (e : Event) (w : WorldAt) → history_of (events ++ e ∷ []) w ≡ history_of events w ++ step_of e (world_after events w) ∷ []
+history-more : (events : List Event) (e : Event) (w : WorldAt) → history_of (events ++ e ∷ []) w ≡ history_of events w
+    ++ step_of e (world_after events w) ∷ []
 history-more [] e w = refl
 history-more (first ∷ events) e w = ap (λ rest. step_of first w ∷ rest) (history-more events e (after first w))
 
-pub run_more : (events : List Event) (e : Event) (old mid new : WorldState) → HasRun events old mid → IsStepped e mid new → HasRun (events ++ e ∷ []) old new
+pub run_more : (events : List Event) (e : Event) (old mid new : WorldState) → HasRun events old mid
+    → IsStepped e mid new → HasRun (events ++ e ∷ []) old new
 run_more events e old mid new run step = record {
   after_is = step.after_is ∙ ap (after e) run.after_is ∙ sym (after-more events e old.world);
   noted = step.noted ∙ (λ i. run.noted i ++ step_of e (run.after_is i) ∷ [])
-      ∙ append_assoc old.history (history_of events old.world) _ ∙ ap (λ steps. old.history ++ steps) (sym (history-more events e old.world));
+      ∙ append_assoc old.history (history_of events old.world) _
+      ∙ ap (λ steps. old.history ++ steps) (sym (history-more events e old.world));
 }
 
 -- ---- the node of an event
@@ -132,9 +154,11 @@ event_in_range nodes (event.Cut node write torn) place is at = subst (λ n. n < 
 event_in_range nodes (event.Fault node write torn) place is at = subst (λ n. n < nodes) (same_place at) is.0
 
 -- the same of a place that was read with another default
-pub at_place : (e : Event) (places : List PlaceAt) (air air' : List TelegramAt) (place : ℕ) (said : StepOutcome) (d new : PlaceAt) (out : List ℕ)
+pub at_place : (e : Event) (places : List PlaceAt) (air air' : List TelegramAt) (place : ℕ) (said : StepOutcome)
+    (d new : PlaceAt) (out : List ℕ)
     → place < length places → place_of e ≡ Some place → IsTakenBy e air (get_or places place d).node said new.node out
-    → HasStopCause said (get_or places place d).counts new.counts → new.journal ≡ (get_or places place d).journal ++ entries_of e said
+    → HasStopCause said (get_or places place d).counts new.counts → new.journal ≡ (get_or places place d).journal
+    ++ entries_of e said
     → air' ≡ air ++ telegrams_of (has_telegram said) out → IsTurned e places air said (set places place new) air'
 at_place e places air air' place said d new out in_range at taken cause noted sent =
     let here : get_or places place d ≡ place_in places place = get_or_default places place d no_place in_range in
@@ -145,24 +169,33 @@ at_place e places air air' place said d new out in_range at taken cause noted se
 
 -- ---- a step, over what the code has at hand
 
-pub step_is : (rows : List Row) (nodes : List NodeRow) (e : Event) (places seen new back : List PlaceAt) (air seen_air air' : List TelegramAt)
-    (history seen_history history' : List Step) (said : StepOutcome) (old : WorldState) → world_state rows nodes places air history ≡ old
+pub step_is : (rows : List Row) (nodes : List NodeRow) (e : Event) (places seen new back : List PlaceAt)
+    (air seen_air air' : List TelegramAt)
+    (history seen_history history' : List Step) (said : StepOutcome) (old : WorldState)
+    → world_state rows nodes places air history ≡ old
     → seen ≡ places → seen_air ≡ air → seen_history ≡ history → IsTurned e seen seen_air said new air' → back ≡ new
-    → history' ≡ seen_history ++ record { event = e; outcome = said } ∷ [] → IsStepped e old (world_state rows nodes back air' history')
-step_is rows nodes e places seen new back air seen_air air' history seen_history history' said old view places_is air_is history_is turned back_is noted =
+    → history' ≡ seen_history ++ record { event = e; outcome = said } ∷ []
+    → IsStepped e old (world_state rows nodes back air' history')
+step_is rows nodes e places seen new back air seen_air air' history seen_history history' said old view places_is air_is
+    history_is turned back_is noted =
     let first : WorldState = world_state rows nodes seen seen_air seen_history in
     let first_is : first ≡ old = (λ i. world_state rows nodes (places_is i) (air_is i) (history_is i)) ∙ view in
-    let last_is : world_state rows nodes new air' (seen_history ++ record { event = e; outcome = said } ∷ []) ≡ world_state rows nodes back air' history'
+    let last_is : world_state rows nodes new air' (seen_history ++ record { event = e; outcome = said } ∷ [])
+    ≡ world_state rows nodes back air' history'
     = (λ i. world_state rows nodes (sym back_is i) air' (sym noted i)) in
     subst (λ w. IsStepped e w (world_state rows nodes back air' history')) first_is
     (subst (λ w. IsStepped e first w) last_is (stepped rows nodes e seen new seen_air air' seen_history said turned))
 
-pub world_is : (e : Event) (places seen new back : List PlaceAt) (air seen_air air' : List TelegramAt) (history seen_history history' : List Step) (said : StepOutcome)
-    → IsWorld places air history → seen ≡ places → seen_air ≡ air → seen_history ≡ history → IsTurned e seen seen_air said new air' → back ≡ new
+pub world_is : (e : Event) (places seen new back : List PlaceAt) (air seen_air air' : List TelegramAt)
+    (history seen_history history' : List Step) (said : StepOutcome)
+    → IsWorld places air history → seen ≡ places → seen_air ≡ air → seen_history ≡ history
+    → IsTurned e seen seen_air said new air' → back ≡ new
     → history' ≡ seen_history ++ record { event = e; outcome = said } ∷ [] → IsWorld back air' history'
-world_is e places seen new back air seen_air air' history seen_history history' said before places_is air_is history_is turned back_is noted =
+world_is e places seen new back air seen_air air' history seen_history history' said before places_is air_is history_is
+    turned back_is noted =
     let now : IsWorld seen seen_air seen_history
-    = subst (λ h. IsWorld seen seen_air h) (sym history_is) (subst (λ a. IsWorld seen a history) (sym air_is) (subst (λ p. IsWorld p air history) (sym places_is) before)) in
+    = subst (λ h. IsWorld seen seen_air h) (sym history_is) (subst (λ a. IsWorld seen a history) (sym air_is)
+    (subst (λ p. IsWorld p air history) (sym places_is) before)) in
     subst (λ h. IsWorld back air' h) (sym noted)
     (subst (λ p. IsWorld p air' (seen_history ++ record { event = e; outcome = said } ∷ [])) (sym back_is)
     (stays_world e seen new seen_air air' seen_history said now turned))
@@ -175,10 +208,14 @@ run_none w = record { after_is = refl; noted = sym (append-nil w.history) }
 pub run_at : (events : List Event) (i : ℕ) (d : Event) (old mid new : WorldState) → i < length events
     → HasRun (take i events) old mid → IsStepped (get_or events i d) mid new → HasRun (take (i + 1) events) old new
 run_at events i d old mid new in_range run step =
-    let one : take (i + 1) events ≡ take i events ++ get_or events i d ∷ [] = ap (λ n. take n events) (add-one i) ∙ take-suc events i d in_range in
-    subst (λ events. HasRun events old new) (sym one) (run_more (take i events) (get_or events i d) old mid new run step)
+    let one : take (i + 1) events ≡ take i events ++ get_or events i d ∷ [] =
+    ap (λ n. take n events) (add-one i) ∙ take-suc events i d in_range in
+    subst (λ events. HasRun events old new) (sym one) (run_more (take i events) (get_or events i d) old mid new run
+    step)
 
-pub noted_at : (i count : ℕ) (e : Event) (mid new : WorldState) → length mid.history ≡ count + i → IsStepped e mid new → length new.history ≡ count + (i + 1)
+pub noted_at : (i count : ℕ) (e : Event) (mid new : WorldState) → length mid.history ≡ count + i → IsStepped e mid new
+    → length new.history ≡ count + (i + 1)
 noted_at i count e mid new before step =
-    let more : length new.history ≡ length mid.history + 1 = ap length step.noted ∙ length-append mid.history (step_of e mid.world ∷ []) in
+    let more : length new.history ≡ length mid.history + 1 =
+    ap length step.noted ∙ length-append mid.history (step_of e mid.world ∷ []) in
     omega (arith, more, before)

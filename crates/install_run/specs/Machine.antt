@@ -1,4 +1,5 @@
--- What an event makes of an installation: its nodes with their memories, and the telegrams on the air. This is statement.
+-- What an event makes of an installation: its nodes with their memories, and the telegrams on the air. This is
+-- statement.
 use Rattle.std.specs.Prelude.{ℕ, zero, suc, ◌+◌, ◌-◌, List, [], ◌∷◌, ◌++◌, length, set, slice_get, get_or, Bool, true, false, Option, Some, None, if◌then◌else◌}
 use Rattle.nvm_model.specs.Plan.{unarmed}
 use Rattle.nvm_model.specs.SimNvm.{with_cut, with_fault}
@@ -109,11 +110,13 @@ abbrev pub turn_of : Event → WorldAt → WorldTurn
 turn_of (event.Set node object value) w =
     at_node node (λ n. call_turn (λ s. set_transition s object value) set_told n n.standing) w
 turn_of (event.Send node object service) w =
-    at_node node (λ n. call_turn (λ s. send_transition n.config s object service) (send_told (length w.air)) n n.standing) w
+    at_node node (λ n. call_turn (λ s. send_transition n.config s object service) (send_told (length w.air)) n
+    n.standing) w
 turn_of (event.ToolSend node to apdu) w =
     at_node node (λ n. call_turn (λ s. tool_transition n.config s to apdu) (send_told (length w.air)) n n.standing) w
 turn_of (event.Ask node to challenge) w =
-    at_node node (λ n. call_turn (λ s. ask_transition n.config s to challenge) (send_told (length w.air)) n n.standing) w
+    at_node node (λ n. call_turn (λ s. ask_transition n.config s to challenge) (send_told (length w.air)) n n.standing)
+    w
 turn_of (event.Deliver telegram node) w =
     at_node node (λ n. receive_turn (length w.air) (heard (telegram_in w.air telegram)) n n.standing) w
 turn_of (event.Lose telegram) w = lose_turn telegram w

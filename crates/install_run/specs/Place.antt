@@ -39,7 +39,8 @@ pub record IsTurned (e : Event) (old : List PlaceAt) (air : List TelegramAt) (sa
     (air' : List TelegramAt) : Type 0 where
   pub outcome_is : said ≡ (turn_of e (world_in old air)).outcome
   pub world_is : world_in new air' ≡ (turn_of e (world_in old air)).world
-  pub cause : (place : ℕ) → place_of e ≡ Some place → HasStopCause said (place_in old place).counts (place_in new place).counts
+  pub cause : (place : ℕ) → place_of e ≡ Some place → HasStopCause said (place_in old place).counts
+      (place_in new place).counts
   pub journals : (place : ℕ) → place < length old
       → (place_in new place).journal ≡ (place_in old place).journal ++ entries_at place e said
   pub size : length new ≡ length old

@@ -13,18 +13,21 @@ pub record IsSomeEvent (e : Event) : Type 0 where
   pub is_event : IsEvent nodes e
 
 -- The turn was taken by the node at this place, which is this one then, and these octets were handed out.
-pub record IsTakenIn (t : WorldTurn) (w : WorldAt) (place : ℕ) (said : StepOutcome) (new : NodeAt) (out : List ℕ) : Type 0 where
+pub record IsTakenIn (t : WorldTurn) (w : WorldAt) (place : ℕ) (said : StepOutcome) (new : NodeAt)
+    (out : List ℕ) : Type 0 where
   pub outcome_is : said ≡ t.outcome
   pub nodes_are : t.world.nodes ≡ set w.nodes place new
   pub air_is : t.world.air ≡ w.air ++ telegrams_of (has_telegram said) out
 
 -- So it is in each world with these telegrams on the air in which the node was the old one.
-pub record IsTakenBy (e : Event) (air : List TelegramAt) (old : NodeAt) (said : StepOutcome) (new : NodeAt) (out : List ℕ) : Type 0 where
+pub record IsTakenBy (e : Event) (air : List TelegramAt) (old : NodeAt) (said : StepOutcome) (new : NodeAt)
+    (out : List ℕ) : Type 0 where
   pub in_each : (w : WorldAt) (place : ℕ) → place_of e ≡ Some place → node_in w place ≡ old → w.air ≡ air
       → IsTakenIn (turn_of e w) w place said new out
 
 -- The turn changed no node: this came of it, and the telegrams are these then.
-pub record IsTurnedOnAir (t : WorldTurn) (nodes : List NodeAt) (said : StepOutcome) (air : List TelegramAt) : Type 0 where
+pub record IsTurnedOnAir (t : WorldTurn) (nodes : List NodeAt) (said : StepOutcome)
+    (air : List TelegramAt) : Type 0 where
   pub outcome_is : said ≡ t.outcome
   pub nodes_are : t.world.nodes ≡ nodes
   pub air_is : t.world.air ≡ air

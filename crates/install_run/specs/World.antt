@@ -32,7 +32,8 @@ counts_at counts place = get_or counts place no_counts
 
 -- Cut and Fault come only where the node's memory counted one in the step.
 abbrev pub HasCause : Event → StepOutcome → List Counts → List Counts → Type 0
-HasCause e said old new = (place : ℕ) → place_of e ≡ Some place → HasStopCause said (counts_at old place) (counts_at new place)
+HasCause e said old new =
+    (place : ℕ) → place_of e ≡ Some place → HasStopCause said (counts_at old place) (counts_at new place)
 
 pub record IsWorld (places : List PlaceAt) (air : List TelegramAt) (history : List Step) : Type 0 where
   pub journals : HasJournals places history

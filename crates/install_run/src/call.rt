@@ -17,7 +17,8 @@ impl Slot {
     // The node's own application sets a value.
     pub(crate) fn set(&mut self, object: usize, value: Value) -> StepOutcome
         ensures taken { let n = slot_at self.old in
-            IsTaken (call_turn (λ s. set_transition s object value) set_told n n.standing) result (slot_at self.new) [] }
+            IsTaken (call_turn (λ s. set_transition s object value) set_told n n.standing) result (slot_at self.new)
+            [] }
         ensures cause { HasStopCause result (counts_at self.old) (counts_at self.new) }
         ensures sound { IsSound (slot_at self.old) → IsSound (slot_at self.new) }
     {
@@ -121,7 +122,8 @@ impl Slot {
         requires count { count < 2 ^ 32 - 1 }
         requires empty { out.old ≡ [] }
         ensures taken { let n = slot_at self.old in
-            IsTaken (receive_turn count (option_map (λ octets. octets.now) octets.entry) n n.standing) result (slot_at self.new) out.new }
+            IsTaken (receive_turn count (option_map (λ octets. octets.now) octets.entry) n n.standing) result
+            (slot_at self.new) out.new }
         ensures cause { HasStopCause result (counts_at self.old) (counts_at self.new) }
         ensures sound { IsSound (slot_at self.old) → IsSound (slot_at self.new) }
     {

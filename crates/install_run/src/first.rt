@@ -39,7 +39,8 @@ pub(crate) fn first_places(
 pub(crate) fn configured(alloc: Global, rows: &[Row], node: &NodeRow) -> Result<Config, NoMemory>
     requires rows { RowsStand rows.now }
     requires node { IsNode rows.now node.now }
-    ensures config { IfOk result (λ config. config_state config ≡ configured node.now.address rows.now node.now.objects) }
+    ensures config { IfOk result (λ config. config_state config
+        ≡ configured node.now.address rows.now node.now.objects) }
 {
     match Config::build(alloc, node.address, rows, node.objects.as_slice()) {
         Ok(config) => Ok(config),

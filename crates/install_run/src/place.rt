@@ -71,7 +71,8 @@ impl Place {
         requires event { IsSomeEvent event.now }
         requires few { length air.now < 2 ^ 32 - 1 }
         requires empty { out.old ≡ [] }
-        ensures taken { IfOk result (λ outcome. IsTakenBy event.now air.now self.old.node outcome self.new.node out.new) }
+        ensures taken { IfOk result (λ outcome. IsTakenBy event.now air.now self.old.node outcome self.new.node
+            out.new) }
         ensures cause { IfOk result (λ outcome. HasStopCause outcome self.old.counts self.new.counts) }
         ensures journal { IfOk result (λ outcome. self.new.journal ≡ self.old.journal ++ entries_of event.now outcome) }
         ensures unchanged { OnErr result (self.new ≡ self.old) }

@@ -149,8 +149,10 @@ pub(crate) fn started(
 ) -> Result<(Node<SimNvm>, Marks), (Config, SimNvm)>
     requires sound { IsSound (node_at (config_state config) None (sim_state memory)) }
     requires powered { (sim_state memory).powered ≡ true }
-    ensures started { IfOk result (λ started. IsStarted (config_state config) (sim_state memory).octets (node_state started.0)) }
-    ensures memory { IfOk result (λ started. IsSameMemory (sim_state memory) (sim_state (node_state started.0).memory)) }
+    ensures started { IfOk result (λ started. IsStarted (config_state config) (sim_state memory).octets
+        (node_state started.0)) }
+    ensures memory { IfOk result (λ started. IsSameMemory (sim_state memory)
+        (sim_state (node_state started.0).memory)) }
     ensures marks { IfOk result (λ started. started.1 ≡ (node_state started.0).standing.numbers.marks) }
     ensures config_back { IfErr result (λ back. config_state back.0 ≡ config_state config) }
     ensures memory_back { IfErr result (λ back. IsSameMemory (sim_state memory) (sim_state back.1)) }

@@ -28,7 +28,8 @@ impl Slot {
         requires few { length air.now < 2 ^ 32 - 1 }
         requires sound { IsSound (slot_at self.old) }
         requires empty { out.old ≡ [] }
-        ensures taken { IfOk result (λ outcome. IsTakenBy event.now air.now (slot_at self.old) outcome (slot_at self.new) out.new) }
+        ensures taken { IfOk result (λ outcome. IsTakenBy event.now air.now (slot_at self.old) outcome
+            (slot_at self.new) out.new) }
         ensures cause { IfOk result (λ outcome. HasStopCause outcome (counts_at self.old) (counts_at self.new)) }
         ensures unchanged { OnErr result (slot_at self.new ≡ slot_at self.old) }
         ensures uncounted { OnErr result (counts_at self.new ≡ counts_at self.old) }

@@ -6,8 +6,8 @@ use std::alloc::Global;
 use std::test::Fail;
 use step_text::print_step_line;
 
-// A push button at 1.1.7 and a lamp at 1.1.9, both of the group 1/2/3; the lamp has a tool key, and the button may manage
-// it. Behind the head come the marks of a case and its events.
+// A push button at 1.1.7 and a lamp at 1.1.9, both of the group 1/2/3; the lamp has a tool key, and the button may
+// manage it. Behind the head come the marks of a case and its events.
 const HEAD: &str = "knx-script 1
 group 1/2/3 000102030405060708090a0b0c0d0e0f conf
 role 1/2/3 1.1.7 command
@@ -61,8 +61,18 @@ fn told(alloc: Global, parts: &[&str]) -> Result<MemSink, Fail> {
 
 #[test]
 fn a_telegram_acts_once(rt: HostRuntime) -> Result<(), Fail> {
-    let events =
-        "send push 0 write\ndeliver 1 lamp\ndeliver 1 lamp\nlose 1\ndeliver 1 lamp\nlose 1\ninject 2b00cc\ndeliver 2 lamp\nset lamp 0 bits:01\nset lamp 1 bits:01\nset lamp 0 01\nsend lamp 0 read\n";
+    let events = "send push 0 write\n\
+         deliver 1 lamp\n\
+         deliver 1 lamp\n\
+         lose 1\n\
+         deliver 1 lamp\n\
+         lose 1\n\
+         inject 2b00cc\n\
+         deliver 2 lamp\n\
+         set lamp 0 bits:01\n\
+         set lamp 1 bits:01\n\
+         set lamp 0 01\n\
+         send lamp 0 read\n";
     let out = told(rt.alloc(), &[HEAD, NODES, events])?;
     let lines = "1 air 1 number 1
 2 acted number 1 lane run:1.1.7 GroupValue_Write object 0 value 01
@@ -81,14 +91,18 @@ fn a_telegram_acts_once(rt: HostRuntime) -> Result<(), Fail> {
     Ok(())
 }
 
-// Events, and what comes of them where power is lost inside a write, where a write fails, and where the node is switched
-// off between two events.
+// Events, and what comes of them where power is lost inside a write, where a write fails, and where the node is
+// switched off between two events.
 #[test]
 fn a_node_goes_on_with_what_its_memory_restores(rt: HostRuntime) -> Result<(), Fail> {
     let rows = [
         (
             "send push 0 write\ncut lamp 1 a5\ndeliver 1 lamp\non lamp\ndeliver 1 lamp\n",
-            "1 air 1 number 1\n2 armed\n3 cut\n4 on next 1 run:1.1.7=0\n5 acted number 1 lane run:1.1.7 GroupValue_Write object 0 value 01\n",
+            "1 air 1 number 1\n\
+             2 armed\n\
+             3 cut\n\
+             4 on next 1 run:1.1.7=0\n\
+             5 acted number 1 lane run:1.1.7 GroupValue_Write object 0 value 01\n",
         ),
         (
             "send push 0 write\ncut lamp 2 a5\ndeliver 1 lamp\non lamp\ndeliver 1 lamp\n",
@@ -112,8 +126,15 @@ fn a_node_goes_on_with_what_its_memory_restores(rt: HostRuntime) -> Result<(), F
 
 #[test]
 fn an_answer_lets_a_node_go_on_above_the_mark(rt: HostRuntime) -> Result<(), Fail> {
-    let events =
-        "mark lamp run:1.1.7 500\nsend push 0 write\ndeliver 1 lamp\nask push 1.1.9 010203040506\ndeliver 2 lamp\ndeliver 3 push\ndeliver 3 push\nsend push 0 write\ndeliver 4 lamp\n";
+    let events = "mark lamp run:1.1.7 500\n\
+         send push 0 write\n\
+         deliver 1 lamp\n\
+         ask push 1.1.9 010203040506\n\
+         deliver 2 lamp\n\
+         deliver 3 push\n\
+         deliver 3 push\n\
+         send push 0 write\n\
+         deliver 4 lamp\n";
     let out = told(rt.alloc(), &[HEAD, TOOL, NODES, events])?;
     let lines = "1 air 1 number 1
 2 stale kept 500 got 1
@@ -177,8 +198,8 @@ fn the_longest_run_is_noted_whole(rt: HostRuntime) -> Result<(), Fail> {
     Ok(())
 }
 
-// A bank with a gate, a generation and two numbers, and its first record; sixteen records stand in a bank, and behind the
-// bank its other one.
+// A bank with a gate, a generation and two numbers, and its first record; sixteen records stand in a bank, and behind
+// the bank its other one.
 const BANK: &str = "image a50000000000000000000000000000000000000000";
 
 #[test]

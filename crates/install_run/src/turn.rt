@@ -25,7 +25,8 @@ pub(crate) fn turn(
     requires event { IsEvent (length places.old) event.now }
     requires few { length air.old.items < 2 ^ 32 - 1 }
     requires room { vec_len air.old < vec_capacity air.old }
-    ensures turned { IfOk result (λ outcome. IsTurned event.now places.old air.old.items outcome places.new air.new.items) }
+    ensures turned { IfOk result (λ outcome. IsTurned event.now places.old air.old.items outcome places.new
+        air.new.items) }
     ensures unchanged { OnErr result (places.new ≡ places.old) }
     ensures air_unchanged { OnErr result (air.new.items ≡ air.old.items) }
 {
@@ -65,7 +66,8 @@ fn turn_node(
     requires at_node { place_of event.now ≡ Some place }
     requires few { length air.old.items < 2 ^ 32 - 1 }
     requires room { vec_len air.old < vec_capacity air.old }
-    ensures turned { IfOk result (λ outcome. IsTurned event.now places.old air.old.items outcome places.new air.new.items) }
+    ensures turned { IfOk result (λ outcome. IsTurned event.now places.old air.old.items outcome places.new
+        air.new.items) }
     ensures unchanged { OnErr result (places.new ≡ places.old) }
     ensures air_unchanged { OnErr result (air.new.items ≡ air.old.items) }
 {
@@ -101,7 +103,8 @@ fn turn_air(air: &mut Vec<Telegram>, event: &Event) -> StepOutcome
     requires no_node { place_of event.now ≡ None }
     requires few { length air.old.items < 2 ^ 32 - 1 }
     requires room { vec_len air.old < vec_capacity air.old }
-    ensures turned { (nodes : List NodeAt) → IsTurnedOnAir (turn_of event.now (record { nodes = nodes; air = air.old.items })) nodes result air.new.items }
+    ensures turned { (nodes : List NodeAt) → IsTurnedOnAir (turn_of event.now
+        (record { nodes = nodes; air = air.old.items })) nodes result air.new.items }
     ensures one_more { length air.new.items ≤ length air.old.items + 1 }
 {
     match *event {
@@ -114,7 +117,8 @@ fn turn_air(air: &mut Vec<Telegram>, event: &Event) -> StepOutcome
 fn inject(air: &mut Vec<Telegram>, octets: RawFrame) -> StepOutcome
     requires few { length air.old.items < 2 ^ 32 - 1 }
     requires room { vec_len air.old < vec_capacity air.old }
-    ensures turned { (nodes : List NodeAt) → IsTurnedOnAir (inject_turn octets (record { nodes = nodes; air = air.old.items })) nodes result air.new.items }
+    ensures turned { (nodes : List NodeAt) → IsTurnedOnAir (inject_turn octets
+        (record { nodes = nodes; air = air.old.items })) nodes result air.new.items }
     ensures one_more { length air.new.items ≤ length air.old.items + 1 }
 {
     let _ = air.push(Telegram::injected(octets));

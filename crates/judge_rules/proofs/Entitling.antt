@@ -17,7 +17,8 @@ both_where true false x said = elim (none-some x (sym said)) [ ]
 both_where false b x said = elim (none-some x (sym said)) [ ]
 
 pub entitled : (rows : List Row) (asked : Option (List ℕ)) (t : Telegram) (c : Channel) (key : List ℕ)
-    → first_failing (entry_checks rows asked t) ≡ None → channel_in rows t ≡ Some c → key_of rows c ≡ Some key → check_sender rows c t ≡ None
+    → first_failing (entry_checks rows asked t) ≡ None → channel_in rows t ≡ Some c → key_of rows c ≡ Some key
+    → check_sender rows c t ≡ None
     → IsEntitled rows t
 unfolding lane_in
 entitled rows asked t c key passed is_channel is_key may =
@@ -28,6 +29,7 @@ entitled rows asked t c key passed is_channel is_key may =
       keyed = ap is_some is_key;
       may_send = both.0;
       may_receive = both.1;
-      lane_is = ap (λ b. if b then None else option_map (λ c. lane_of c (source_of t)) (channel_in rows t)) (lanes_pass rows asked t _ refl (ap is_some passed))
+      lane_is = ap (λ b. if b then None else option_map (λ c. lane_of c (source_of t)) (channel_in rows t))
+          (lanes_pass rows asked t _ refl (ap is_some passed))
           ∙ ap (option_map (λ c. lane_of c (source_of t))) is_channel;
     }

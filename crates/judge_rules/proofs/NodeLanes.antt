@@ -19,22 +19,26 @@ use Rattle.judge_rules.specs.NodeLanes.{KeptOnItsLanes}
 use Rattle.judge_rules.proofs.Keeping.{on_other_way, kept_of-parts}
 use Rattle.judge_rules.proofs.Entitling.{both_where}
 
-third_passes : (code payload sender : Option Verdict) → is_some (first_failing (code ∷ payload ∷ sender ∷ [])) ≡ false → sender ≡ None
+third_passes : (code payload sender : Option Verdict) → is_some (first_failing (code ∷ payload ∷ sender ∷ [])) ≡ false
+    → sender ≡ None
 third_passes (Some _) payload sender passed = absurd cc
 third_passes None (Some _) sender passed = absurd cc
 third_passes None None (Some _) passed = absurd cc
 third_passes None None None passed = refl
 
 module _ (rows : List Row) (named : list_any is_any rows ≡ false) (node : IndAddr) (groups : List GroupAddr) where
-  on_its_channel : (mark number : ℕ) (t : Telegram) (kept : Lane × ℕ) → is_to node groups (is_group t) t.destination ≡ true
+  on_its_channel : (mark number : ℕ) (t : Telegram) (kept : Lane × ℕ)
+      → is_to node groups (is_group t) t.destination ≡ true
       → (c : Option Channel) → channel_in rows t ≡ c → on_channel None c (λ c. kept_on rows mark number c t) ≡ Some kept
       → has_lane (lanes_of rows node groups) kept.0 ≡ true
   unfolding channel_in
   on_its_channel mark number t kept to None is said = elim (none-some kept said) [ ]
   on_its_channel mark number t kept to (Some c) is said =
       let passed = on_other_way (is_some (first_failing (code_checks rows number c t))) _ kept said in
-      let may = both_where (is_some (role_of rows c (source_of t))) (receiver_may rows t.destination c) _ (third_passes _ _ _ passed.0) in
-      let there = lane_there rows named node groups (is_group t) (has_tool_access t) (source_of t) t.destination c to is may.0 may.1 in
+      let may = both_where (is_some (role_of rows c (source_of t))) (receiver_may rows t.destination c) _
+      (third_passes _ _ _ passed.0) in
+      let there = lane_there rows named node groups (is_group t) (has_tool_access t) (source_of t) t.destination c to is
+      may.0 may.1 in
       let lane_is : lane_of c (source_of t) ≡ kept.0 = cc ((kept_of-parts mark number c t kept passed.1).on_lane) in
       subst (λ lane. has_lane (lanes_of rows node groups) lane ≡ true) lane_is there
 

@@ -28,7 +28,8 @@ use Rattle.judge_rules.specs.Parts.{is_group, source_of, field_in, sync_service,
 -- ---- before the code is looked at
 
 abbrev pub check_control : Telegram → Option Verdict
-check_control t = if carries_data (tpci_of (slice_index t.content 0)) then None else Some (verdict.Control (slice_index t.content 0))
+check_control t =
+    if carries_data (tpci_of (slice_index t.content 0)) then None else Some (verdict.Control (slice_index t.content 0))
 
 abbrev pub plain_service : List ℕ → Option Service
 plain_service content = if nat_lt (length content) 2 then None else Some (service_in content)
@@ -139,7 +140,8 @@ abbrev pub check_upper : ℕ → Option Verdict
 check_upper octet = if nat_lt 3 octet then Some (verdict.Service (bad.UpperBits octet)) else None
 
 abbrev pub check_service : Channel → ℕ → Option Verdict
-check_service c bits = if is_service_on c (services.service_of bits) then None else Some (verdict.Service (bad.Code bits))
+check_service c bits =
+    if is_service_on c (services.service_of bits) then None else Some (verdict.Service (bad.Code bits))
 
 -- ---- the verdict
 
@@ -159,7 +161,8 @@ lane_checks rows t = secure_checks t ++ check_key rows t ∷ []
 
 -- where a receiver keeps the number of a telegram; one that fails a check before it has a channel has no lane
 unfoldable pub lane_in : List Row → Telegram → Option Lane
-lane_in rows t = if is_some (first_failing (lane_checks rows t)) then None else option_map (λ c. lane_of c (source_of t)) (channel_in rows t)
+lane_in rows t = if is_some (first_failing (lane_checks rows t)) then None
+    else option_map (λ c. lane_of c (source_of t)) (channel_in rows t)
 
 abbrev pub entry_checks : List Row → Option (List ℕ) → Telegram → List (Option Verdict)
 entry_checks rows asked t = lane_checks rows t ++ check_pending asked t ∷ []
@@ -173,7 +176,8 @@ key_on rows c = unwrap_or (key_of rows c) []
 
 -- after these a number may be kept
 abbrev pub code_checks : List Row → ℕ → Channel → Telegram → List (Option Verdict)
-code_checks rows number c t = check_code (key_on rows c) number t ∷ opened_checks rows number c t (apdu_in (key_on rows c) number t)
+code_checks rows number c t =
+    check_code (key_on rows c) number t ∷ opened_checks rows number c t (apdu_in (key_on rows c) number t)
 
 abbrev pub data_checks : List Row → ℕ → ℕ → Channel → Telegram → List ℕ → List (Option Verdict)
 data_checks rows mark number c t apdu =
@@ -204,10 +208,12 @@ abbrev pub on_channel : {A : Type 0} → A → Option Channel → (Channel → A
 on_channel other None P = other
 on_channel other (Some c) P = P c
 
--- the verdict under the rows of an installation, the mark of the telegram's lane, and the challenge that is open or none
+-- the verdict under the rows of an installation, the mark of the telegram's lane, and the challenge that is open or
+-- none
 unfoldable pub verdict_of : List Row → ℕ → Option (List ℕ) → Telegram → Verdict
 verdict_of rows mark asked t =
-    verdict_or (on_channel verdict.NoKey (channel_in rows t) (λ c. verdict_on rows mark (number_in asked t) c t)) (first_failing (entry_checks rows asked t))
+    verdict_or (on_channel verdict.NoKey (channel_in rows t) (λ c. verdict_on rows mark (number_in asked t) c t))
+    (first_failing (entry_checks rows asked t))
 
 abbrev pub is_ask : Verdict → Bool
 is_ask (verdict.SyncAsk _ _) = true
@@ -220,7 +226,8 @@ is_good (verdict.SyncAsk _ _) = true
 is_good (verdict.SyncAnswer _ _) = true
 is_good _ = false
 
--- A telegram has a channel, with a key, whose sender may send there and whose receiver is on it; and a lane of that channel.
+-- A telegram has a channel, with a key, whose sender may send there and whose receiver is on it; and a lane of that
+-- channel.
 pub record IsEntitled (rows : List Row) (t : Telegram) : Type 0 where
   pub channel : Channel
   pub channel_is : channel_in rows t ≡ Some channel
@@ -240,7 +247,8 @@ kept_of mark number c t =
     if sync_service t == 2 then None else if nat_lt mark number then Some (lane_of c (source_of t), number) else None
 
 abbrev pub kept_on : List Row → ℕ → ℕ → Channel → Telegram → Kept
-kept_on rows mark number c t = if is_some (first_failing (code_checks rows number c t)) then None else kept_of mark number c t
+kept_on rows mark number c t =
+    if is_some (first_failing (code_checks rows number c t)) then None else kept_of mark number c t
 
 unfoldable pub kept_by : List Row → ℕ → Option (List ℕ) → Telegram → Kept
 kept_by rows mark asked t =

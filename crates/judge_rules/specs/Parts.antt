@@ -45,7 +45,8 @@ with_challenge (Some challenge) shown = xor_number challenge shown
 
 -- the number under which it was sealed: the one that it shows, and for an answer that one with the challenge added
 abbrev pub number_in : Option (List ℕ) → Telegram → ℕ
-number_in asked telegram = if sync_service telegram == 3 then with_challenge asked (shown_in telegram) else shown_in telegram
+number_in asked telegram =
+    if sync_service telegram == 3 then with_challenge asked (shown_in telegram) else shown_in telegram
 
 abbrev pub head_in : ℕ → Telegram → Head
 head_in number telegram = head_of telegram number (field_in telegram)
@@ -53,7 +54,8 @@ head_in number telegram = head_of telegram number (field_in telegram)
 -- ---- under the rows of an installation
 
 unfoldable pub channel_in : List Row → Telegram → Option Channel
-channel_in rows telegram = channel_of rows (is_group telegram) (has_tool_access telegram) (source_of telegram) telegram.destination
+channel_in rows telegram =
+    channel_of rows (is_group telegram) (has_tool_access telegram) (source_of telegram) telegram.destination
 
 -- ---- services
 

@@ -28,7 +28,8 @@ not_frame_text (fault.Info place) = codes "not-frame info " ++ decimal place
 not_frame_text (fault.Format control) = codes "not-frame format " ++ octet_text control
 not_frame_text fault.Escape = codes "not-frame escape"
 not_frame_text (fault.Length said found) = codes "not-frame length " ++ decimal said ++ 32 ∷ [] ++ decimal found
-not_frame_text (fault.Check said computed) = codes "not-frame check " ++ octet_text said ++ 32 ∷ [] ++ octet_text computed
+not_frame_text (fault.Check said computed) =
+    codes "not-frame check " ++ octet_text said ++ 32 ∷ [] ++ octet_text computed
 not_frame_text (fault.Acknowledge octet) = codes "not-frame acknowledge " ++ octet_text octet
 
 abbrev pub bad_secure_text : BadSecure → List ℕ
@@ -64,16 +65,20 @@ bad_object_text (object.Size found wanted) = codes "object size " ++ decimal fou
 abbrev pub verdict_text : Verdict → List ℕ → List ℕ
 verdict_text (verdict.Accepted number service) apdu =
     codes "accepted number " ++ decimal number ++ 32 ∷ [] ++ name_of service ++ 32 ∷ [] ++ encode_lower apdu
-verdict_text (verdict.SyncAsk number challenge) apdu = codes "sync-ask number " ++ decimal number ++ codes " challenge " ++ encode_lower challenge
-verdict_text (verdict.SyncAnswer number kept) apdu = codes "sync-answer number " ++ decimal number ++ codes " kept " ++ decimal kept
+verdict_text (verdict.SyncAsk number challenge) apdu =
+    codes "sync-ask number " ++ decimal number ++ codes " challenge " ++ encode_lower challenge
+verdict_text (verdict.SyncAnswer number kept) apdu =
+    codes "sync-answer number " ++ decimal number ++ codes " kept " ++ decimal kept
 verdict_text (verdict.NotFrame found) apdu = not_frame_text found
 verdict_text (verdict.Control octet) apdu = codes "control " ++ octet_text octet
 verdict_text (verdict.Plain service) apdu = codes "plain " ++ service_text service
 verdict_text (verdict.BadSecure found) apdu = bad_secure_text found
 verdict_text verdict.NoKey apdu = codes "no-key"
 verdict_text verdict.NoPending apdu = codes "no-pending"
-verdict_text (verdict.BadCode found) apdu = codes "bad-code said " ++ encode_lower found.said ++ codes " computed " ++ encode_lower found.computed
-verdict_text (verdict.BadPayload said number) apdu = codes "bad-payload said " ++ decimal said ++ codes " number " ++ decimal number
+verdict_text (verdict.BadCode found) apdu =
+    codes "bad-code said " ++ encode_lower found.said ++ codes " computed " ++ encode_lower found.computed
+verdict_text (verdict.BadPayload said number) apdu =
+    codes "bad-payload said " ++ decimal said ++ codes " number " ++ decimal number
 verdict_text verdict.Sender apdu = codes "sender"
 verdict_text (verdict.Stale kept got) apdu = codes "stale kept " ++ decimal kept ++ codes " got " ++ decimal got
 verdict_text verdict.Level apdu = codes "level"

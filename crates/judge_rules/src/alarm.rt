@@ -7,8 +7,8 @@ use cemi_frames::Frame;
 use key_tables::{Channel, Tables};
 use knx_base::GroupAddr;
 
-/// Whether a verdict on a frame is one to warn of. A stale frame is none where the link layer repeats it and its number is the
-/// mark.
+/// Whether a verdict on a frame is one to warn of. A stale frame is none where the link layer repeats it and its number
+/// is the mark.
 pub fn is_alarm(tables: &Tables, frame: &Frame<'_>, verdict: &Verdict) -> bool
     ensures alarm { result ≡ is_alarm tables.now (telegram frame.now) verdict.now }
 {

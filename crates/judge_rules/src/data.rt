@@ -19,9 +19,11 @@ pub(crate) fn data_refusal(
     entry: &Entry<'_, '_>,
     apdu: &[u8],
 ) -> Option<Verdict>
-    requires parts { HasParts frame.now.content.now entry.now.secure.field entry.now.secure.shown entry.now.secure.body.now }
+    requires parts { HasParts frame.now.content.now entry.now.secure.field entry.now.secure.shown
+        entry.now.secure.body.now }
     requires two { 2 ≤ length apdu.now }
-    ensures { result ≡ first_failing (data_checks tables.now kept entry.now.number entry.now.channel (telegram frame.now) apdu.now) }
+    ensures { result ≡ first_failing (data_checks tables.now kept entry.now.number entry.now.channel
+        (telegram frame.now) apdu.now) }
 {
     match stale_refusal(kept, entry.number) {
         Some(verdict) => Some(verdict),
@@ -53,7 +55,8 @@ fn level_or_right_refusal(
     apdu: &[u8],
 ) -> Option<Verdict>
     requires two { 2 ≤ length apdu.now }
-    ensures { result ≡ first_failing (check_level tables.now channel field ∷ check_role tables.now channel source (service_in apdu.now)
+    ensures { result ≡ first_failing (check_level tables.now channel field
+        ∷ check_role tables.now channel source (service_in apdu.now)
         ∷ check_upper (slice_index apdu.now 0) ∷ check_service channel (bits_in apdu.now) ∷ []) }
 {
     match level_refusal(tables, channel, field) {
@@ -128,7 +131,8 @@ fn is_response(service: Service) -> bool
 // The upper six bits of the first octet are zero, and the service is one of the channel's.
 fn service_refusal(channel: Channel, apdu: &[u8]) -> Option<Verdict>
     requires two { 2 ≤ length apdu.now }
-    ensures { result ≡ first_failing (check_upper (slice_index apdu.now 0) ∷ check_service channel (bits_in apdu.now) ∷ []) }
+    ensures { result ≡ first_failing (check_upper (slice_index apdu.now 0) ∷ check_service channel (bits_in apdu.now)
+        ∷ []) }
 {
     if apdu[0] > 3 {
         return Some(Verdict::Service(BadService::UpperBits(apdu[0])));

@@ -101,7 +101,8 @@ fn keyed_channel<'t>(
     requires { field ≡ field_in (telegram frame.now) }
     ensures { MatchOption result
         (channel_in tables.now (telegram frame.now) ≡ None)
-        (λ found. (channel_in tables.now (telegram frame.now) ≡ Some found.0) × (key_of tables.now found.0 ≡ Some found.1.now)) }
+        (λ found. (channel_in tables.now (telegram frame.now) ≡ Some found.0)
+        × (key_of tables.now found.0 ≡ Some found.1.now)) }
 {
     let channel = channel_of(tables, frame, field)?;
     let key = tables.expanded_key(channel)?;
@@ -170,7 +171,8 @@ fn nonce_number(secure: &Secure<'_>, asked: Option<[u8; 6]>) -> Option<Number48>
 // Why a frame is not secure.
 fn insecure(frame: &Frame<'_>) -> Verdict
     requires { is_secure frame.now.content.now ≡ false }
-    ensures first { first_failing (check_control (telegram frame.now) ∷ check_plain (telegram frame.now) ∷ []) ≡ Some result }
+    ensures first { first_failing (check_control (telegram frame.now) ∷ check_plain (telegram frame.now) ∷ [])
+        ≡ Some result }
     ensures bad { is_good result ≡ false }
 {
     match Tpci::read(frame.content[0]) {

@@ -14,8 +14,8 @@ use key_tables::{Channel, Lane, Tables};
 use knx_base::{IndAddr, Number48};
 use secure_apdu::{ApduBuf, open_frame, sync_values};
 
-/// Judges a frame under the mark of its lane, and the challenge that is open or none. Where the code is right `apdu` has the
-/// APDU that was opened; else it is empty.
+/// Judges a frame under the mark of its lane, and the challenge that is open or none. Where the code is right `apdu`
+/// has the APDU that was opened; else it is empty.
 #[tactic(auto, unfolding(crate::specs::Checks::verdict_of, crate::specs::Checks::kept_by, crate::specs::Checks::opened_by))]
 pub fn judge(
     tables: &Tables,
@@ -58,12 +58,15 @@ fn judge_entry(
     apdu: &mut ApduBuf,
 ) -> Judgement
     requires faultless { bad_secure frame.now.content.now (frame.now.control2 / 128 % 2 == 1) ≡ None }
-    requires parts { HasParts frame.now.content.now entry.now.secure.field entry.now.secure.shown entry.now.secure.body.now }
+    requires parts { HasParts frame.now.content.now entry.now.secure.field entry.now.secure.shown
+        entry.now.secure.body.now }
     requires key { key_of tables.now entry.now.channel ≡ Some entry.now.key.now }
-    ensures verdict { result.verdict ≡ verdict_on tables.now kept entry.now.number entry.now.channel (telegram frame.now) }
+    ensures verdict { result.verdict ≡ verdict_on tables.now kept entry.now.number entry.now.channel
+        (telegram frame.now) }
     ensures keeps { result.keeps ≡ kept_on tables.now kept entry.now.number entry.now.channel (telegram frame.now) }
     ensures opened { apdu.new ≡ opened_on tables.now entry.now.number entry.now.channel (telegram frame.now) }
-    ensures sender { is_good result.verdict ≡ true → check_sender tables.now entry.now.channel (telegram frame.now) ≡ None }
+    ensures sender { is_good result.verdict ≡ true → check_sender tables.now entry.now.channel (telegram frame.now)
+        ≡ None }
     ensures two { is_good result.verdict ≡ true → 2 ≤ length apdu.new }
 {
     match open_frame(entry.key, frame, &entry.secure, entry.number, apdu) {
@@ -80,17 +83,22 @@ fn judge_opened(
     entry: &Entry<'_, '_>,
     apdu: &[u8],
 ) -> Judgement
-    requires parts { HasParts frame.now.content.now entry.now.secure.field entry.now.secure.shown entry.now.secure.body.now }
+    requires parts { HasParts frame.now.content.now entry.now.secure.field entry.now.secure.shown
+        entry.now.secure.body.now }
     requires two { 2 ≤ length apdu.now }
     requires six { sync_service (telegram frame.now) ≡ 2 → length apdu.now ≡ 6 }
-    requires twelve { (sync_service (telegram frame.now) ≡ 0 → ⊥) → (sync_service (telegram frame.now) ≡ 2 → ⊥) → length apdu.now ≡ 12 }
-    ensures refused { (failed : Verdict) → first_failing (opened_checks tables.now entry.now.number entry.now.channel (telegram frame.now) apdu.now) ≡ Some failed
+    requires twelve { (sync_service (telegram frame.now) ≡ 0 → ⊥) → (sync_service (telegram frame.now) ≡ 2 → ⊥)
+        → length apdu.now ≡ 12 }
+    ensures refused { (failed : Verdict) → first_failing (opened_checks tables.now entry.now.number entry.now.channel
+        (telegram frame.now) apdu.now) ≡ Some failed
         → (result.verdict ≡ failed) × (result.keeps ≡ None) }
-    ensures passed { first_failing (opened_checks tables.now entry.now.number entry.now.channel (telegram frame.now) apdu.now) ≡ None
+    ensures passed { first_failing (opened_checks tables.now entry.now.number entry.now.channel (telegram frame.now)
+        apdu.now) ≡ None
         → (result.verdict ≡ verdict_or (good_verdict entry.now.number (telegram frame.now) apdu.now)
         (first_failing (last_checks tables.now kept entry.now.number entry.now.channel (telegram frame.now) apdu.now)))
         × (result.keeps ≡ kept_of kept entry.now.number entry.now.channel (telegram frame.now)) }
-    ensures sender { is_good result.verdict ≡ true → check_sender tables.now entry.now.channel (telegram frame.now) ≡ None }
+    ensures sender { is_good result.verdict ≡ true → check_sender tables.now entry.now.channel (telegram frame.now)
+        ≡ None }
 {
     match opened_refusal(tables, frame, entry, apdu) {
         Some(verdict) => refused(verdict),
@@ -107,9 +115,11 @@ fn opened_refusal(
     entry: &Entry<'_, '_>,
     apdu: &[u8],
 ) -> Option<Verdict>
-    requires parts { HasParts frame.now.content.now entry.now.secure.field entry.now.secure.shown entry.now.secure.body.now }
+    requires parts { HasParts frame.now.content.now entry.now.secure.field entry.now.secure.shown
+        entry.now.secure.body.now }
     requires twelve { sync_service (telegram frame.now) ≡ 3 → length apdu.now ≡ 12 }
-    ensures first { result ≡ first_failing (opened_checks tables.now entry.now.number entry.now.channel (telegram frame.now) apdu.now) }
+    ensures first { result ≡ first_failing (opened_checks tables.now entry.now.number entry.now.channel
+        (telegram frame.now) apdu.now) }
     ensures bad { IfSome result (λ verdict. is_good verdict ≡ false) }
     ensures sender { result ≡ None → check_sender tables.now entry.now.channel (telegram frame.now) ≡ None }
 {
@@ -121,7 +131,8 @@ fn opened_refusal(
 }
 
 fn payload_refusal(frame: &Frame<'_>, entry: &Entry<'_, '_>, apdu: &[u8]) -> Option<Verdict>
-    requires parts { HasParts frame.now.content.now entry.now.secure.field entry.now.secure.shown entry.now.secure.body.now }
+    requires parts { HasParts frame.now.content.now entry.now.secure.field entry.now.secure.shown
+        entry.now.secure.body.now }
     requires twelve { sync_service (telegram frame.now) ≡ 3 → length apdu.now ≡ 12 }
     ensures check { result ≡ check_payload entry.now.number (telegram frame.now) apdu.now }
     ensures bad { IfSome result (λ verdict. is_good verdict ≡ false) }
@@ -176,10 +187,12 @@ fn last_verdict(
     entry: &Entry<'_, '_>,
     apdu: &[u8],
 ) -> Verdict
-    requires parts { HasParts frame.now.content.now entry.now.secure.field entry.now.secure.shown entry.now.secure.body.now }
+    requires parts { HasParts frame.now.content.now entry.now.secure.field entry.now.secure.shown
+        entry.now.secure.body.now }
     requires two { 2 ≤ length apdu.now }
     requires six { sync_service (telegram frame.now) ≡ 2 → length apdu.now ≡ 6 }
-    requires twelve { (sync_service (telegram frame.now) ≡ 0 → ⊥) → (sync_service (telegram frame.now) ≡ 2 → ⊥) → length apdu.now ≡ 12 }
+    requires twelve { (sync_service (telegram frame.now) ≡ 0 → ⊥) → (sync_service (telegram frame.now) ≡ 2 → ⊥)
+        → length apdu.now ≡ 12 }
     ensures { result ≡ verdict_or (good_verdict entry.now.number (telegram frame.now) apdu.now)
         (first_failing (last_checks tables.now kept entry.now.number entry.now.channel (telegram frame.now) apdu.now)) }
 {
@@ -214,7 +227,8 @@ fn data_verdict(
     entry: &Entry<'_, '_>,
     apdu: &[u8],
 ) -> Verdict
-    requires parts { HasParts frame.now.content.now entry.now.secure.field entry.now.secure.shown entry.now.secure.body.now }
+    requires parts { HasParts frame.now.content.now entry.now.secure.field entry.now.secure.shown
+        entry.now.secure.body.now }
     requires two { 2 ≤ length apdu.now }
     ensures { result ≡ verdict_or (Verdict.Accepted entry.now.number (service_in apdu.now))
         (first_failing (data_checks tables.now kept entry.now.number entry.now.channel (telegram frame.now) apdu.now)) }
@@ -230,7 +244,8 @@ fn data_verdict(
 
 // The lane and the number that are kept of a frame whose code is right and whose sender may send.
 fn keeps(kept: Number48, frame: &Frame<'_>, entry: &Entry<'_, '_>) -> Option<(Lane, Number48)>
-    requires parts { HasParts frame.now.content.now entry.now.secure.field entry.now.secure.shown entry.now.secure.body.now }
+    requires parts { HasParts frame.now.content.now entry.now.secure.field entry.now.secure.shown
+        entry.now.secure.body.now }
     ensures { result ≡ kept_of kept entry.now.number entry.now.channel (telegram frame.now) }
 {
     if entry.service() == REQUEST || entry.number <= kept {

@@ -1,5 +1,5 @@
-//! The judgement of secured telegrams: the verdict on a frame, what a receiver keeps of it, and how it is told. No call takes
-//! memory.
+//! The judgement of secured telegrams: the verdict on a frame, what a receiver keeps of it, and how it is told. No call
+//! takes memory.
 #![tactic(auto)]
 
 mod alarm;

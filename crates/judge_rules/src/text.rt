@@ -14,8 +14,8 @@ use knx_ccm::CodeDiffers;
 use plain_apdu::{BadObject, Service, service_name};
 use secure_apdu::BadSecure;
 
-/// Writes the text of a verdict, without a line end. `apdu` is the APDU that was opened, which the text of an accepted telegram
-/// shows.
+/// Writes the text of a verdict, without a line end. `apdu` is the APDU that was opened, which the text of an accepted
+/// telegram shows.
 pub fn write_verdict<S: Sink>(verdict: &Verdict, apdu: &[u8], out: &mut S) -> Result<(), Failed>
     requires short { length apdu.now ≤ 242 }
     ensures text { Prints (S.octets out.old) (S.octets out.new) result (verdict_text verdict.now apdu.now) }
@@ -75,7 +75,8 @@ pub fn put_verdict(verdict: &Verdict, apdu: &[u8], line: &mut LineBuf)
 fn put_accepted(number: &Number48, service: Service, apdu: &[u8], line: &mut LineBuf)
     requires short { length apdu.now ≤ 242 }
     requires room { length line.old + 600 ≤ 1024 }
-    ensures added { line.new ≡ line.old ++ codes "accepted number " ++ decimal number.now ++ 32 ∷ [] ++ name_of service ++ 32 ∷ [] ++ encode_lower apdu.now }
+    ensures added { line.new ≡ line.old ++ codes "accepted number " ++ decimal number.now ++ 32 ∷ [] ++ name_of service
+        ++ 32 ∷ [] ++ encode_lower apdu.now }
     ensures length { length line.new ≤ length line.old + 600 }
 {
     line.text("accepted number ");
@@ -88,7 +89,8 @@ fn put_accepted(number: &Number48, service: Service, apdu: &[u8], line: &mut Lin
 
 fn put_ask(number: &Number48, challenge: &[u8; 6], line: &mut LineBuf)
     requires room { length line.old + 120 ≤ 1024 }
-    ensures added { line.new ≡ line.old ++ codes "sync-ask number " ++ decimal number.now ++ codes " challenge " ++ encode_lower challenge.now }
+    ensures added { line.new ≡ line.old ++ codes "sync-ask number " ++ decimal number.now ++ codes " challenge "
+        ++ encode_lower challenge.now }
     ensures length { length line.new ≤ length line.old + 120 }
 {
     line.text("sync-ask number ");
@@ -236,7 +238,8 @@ fn service_word(service: Service) -> &'static str
 
 fn put_bad_code(found: &CodeDiffers, line: &mut LineBuf)
     requires room { length line.old + 120 ≤ 1024 }
-    ensures added { line.new ≡ line.old ++ (codes "bad-code said " ++ encode_lower found.now.said ++ codes " computed " ++ encode_lower found.now.computed) }
+    ensures added { line.new ≡ line.old ++ (codes "bad-code said " ++ encode_lower found.now.said ++ codes " computed "
+        ++ encode_lower found.now.computed) }
     ensures length { length line.new ≤ length line.old + 120 }
 {
     line.text("bad-code said ");

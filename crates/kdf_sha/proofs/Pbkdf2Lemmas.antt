@@ -23,7 +23,8 @@ length-fold password text sum (suc count) long =
 
 length-xor_sum : (password text : List ℕ) (count : ℕ) → length (xor_sum (iterations password text count)) ≡ 32
 length-xor_sum password text zero = refl
-length-xor_sum password text (suc count) = length-fold password (hmac_of password text) (hmac_of password text) count (length-hmac_of password text)
+length-xor_sum password text (suc count) =
+    length-fold password (hmac_of password text) (hmac_of password text) count (length-hmac_of password text)
 
 pub length-block_of : (password salt : List ℕ) (rounds i : ℕ) → length (block_of password salt rounds i) ≡ 32
 unfolding block_of
@@ -32,17 +33,25 @@ length-block_of password salt rounds i = length-xor_sum password _ rounds
 pub length-blocks_of : (password salt : List ℕ) (rounds n : ℕ) → length (blocks_of password salt rounds n) ≡ 32 * n
 length-blocks_of password salt rounds zero = refl
 length-blocks_of password salt rounds (suc n) =
-    omega (arith, length-append (blocks_of password salt rounds n) (block_of password salt rounds (n + 1)), length-blocks_of password salt rounds n, length-block_of password salt rounds (n + 1))
+    omega (
+      arith,
+      length-append (blocks_of password salt rounds n) (block_of password salt rounds (n + 1)),
+      length-blocks_of password salt rounds n,
+      length-block_of password salt rounds (n + 1),
+    )
 
 -- the first code begins the sum
 pub first_round : (password text first : List ℕ) (count : ℕ) → 1 ≤ count → first ≡ hmac_of password text
     → fold xored first (iterations password first (count - 1)) ≡ xor_sum (iterations password text count)
 first_round password text first zero some is = absurd (omega (arith, some))
-first_round password text first (suc count) some is = let less : suc count - 1 ≡ count = omega arith in rw (less, is) refl
+first_round password text first (suc count) some is =
+    let less : suc count - 1 ≡ count = omega arith in rw (less, is) refl
 
 -- the sum goes on with the next code
-pub one_round : (password code sum : List ℕ) (count now : ℕ) (next : List ℕ) → now < count → next ≡ hmac_of password code
-    → fold xored (xored sum next) (iterations password next (count - (now + 1))) ≡ fold xored sum (iterations password code (count - now))
+pub one_round : (password code sum : List ℕ) (count now : ℕ) (next : List ℕ) → now < count
+    → next ≡ hmac_of password code
+    → fold xored (xored sum next) (iterations password next (count - (now + 1)))
+    ≡ fold xored sum (iterations password code (count - now))
 one_round password code sum count now next below is =
     let less : count - now ≡ suc (count - (now + 1)) = omega arith in
     rw (less, is) refl
@@ -50,18 +59,22 @@ one_round password code sum count now next below is =
 -- a block is put behind those before, and both are cut to the length
 pub one_block : (out front block : List ℕ) (i : ℕ) → length front ≡ 32 * i → length block ≡ 32 → 32 * i < length out
     → take (32 * i) out ≡ take (length out) front
-    → take (32 * (i + 1)) (take (32 * i) out ++ take (length out - 32 * i) block ++ drop (32 * i + 32) out) ≡ take (length out) (front ++ block)
+    → take (32 * (i + 1)) (take (32 * i) out ++ take (length out - 32 * i) block ++ drop (32 * i + 32) out)
+    ≡ take (length out) (front ++ block)
 one_block out front block i front_long block_long below same =
     same_lists _ _ (search (rules, places)) (λ k d h. grind (arith, places))
 
 pub blocks_more : (password salt : List ℕ) (rounds i : ℕ) (old new block : List ℕ) → 32 * i < length old
-    → block ≡ block_of password salt rounds (i + 1) → take (32 * i) old ≡ take (length old) (blocks_of password salt rounds i)
+    → block ≡ block_of password salt rounds (i + 1) → take (32 * i) old
+    ≡ take (length old) (blocks_of password salt rounds i)
     → new ≡ take (32 * i) old ++ take (length old - 32 * i) block ++ drop (32 * i + 32) old → length new ≡ length old
     → take (32 * (i + 1)) new ≡ take (length new) (blocks_of password salt rounds (i + 1))
 blocks_more password salt rounds i old new block below is same put long =
     let block_long : length block ≡ 32 = ap length is ∙ length-block_of password salt rounds (i + 1) in
-    let put_is = one_block old (blocks_of password salt rounds i) block i (length-blocks_of password salt rounds i) block_long below same in
-    rw long (ap (take (32 * (i + 1))) put ∙ put_is ∙ ap (λ (last : List ℕ). take (length old) (blocks_of password salt rounds i ++ last)) is
+    let put_is = one_block old (blocks_of password salt rounds i) block i (length-blocks_of password salt rounds i)
+    block_long below same in
+    rw long (ap (take (32 * (i + 1))) put ∙ put_is ∙ ap (λ (last : List ℕ). take (length old)
+    (blocks_of password salt rounds i ++ last)) is
     ∙ ap (λ (n : ℕ). take (length old) (blocks_of password salt rounds n)) (sym (add-one i)))
 
 -- once all blocks are put, all is said

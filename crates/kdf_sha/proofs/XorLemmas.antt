@@ -6,7 +6,8 @@ use Rattle.std.specs.List.{zip}
 use Rattle.kdf_sha.specs.Xor.{xored}
 
 pub length-xored : (xs ys : List ℕ) → length xs ≡ length ys → length (xored xs ys) ≡ length xs
-length-xored xs ys same = length-map (zip xs ys) (λ (pair : ℕ × ℕ). bit_xor pair.0 pair.1) ∙ omega (arith, length-zip xs ys)
+length-xored xs ys same =
+    length-map (zip xs ys) (λ (pair : ℕ × ℕ). bit_xor pair.0 pair.1) ∙ omega (arith, length-zip xs ys)
 
 pub get_or-xored : (xs ys : List ℕ) (k : ℕ) → k < length xs → length xs ≡ length ys
     → get_or (xored xs ys) k 0 ≡ bit_xor (get_or xs k 0) (get_or ys k 0)

@@ -24,7 +24,8 @@ pub fn pbkdf2_256(password: &[u8], salt: &[u8], rounds: u32, out: &mut [u8])
 // The XOR sum of the codes of all rounds, the first of the salt and the block's number.
 fn derived_block(keyed: &Keyed, salt: &[u8], rounds: u32, number: u32) -> [u8; CODE_OCTETS]
     requires rounds { 1 ≤ rounds }
-    ensures block { (password : List ℕ) → IsKeyed keyed.now password → result ≡ block_of password salt.now rounds number }
+    ensures block { (password : List ℕ) → IsKeyed keyed.now password
+        → result ≡ block_of password salt.now rounds number }
 {
     let mut code = keyed.code(salt, &number.to_be_bytes());
     let mut sum = code;

@@ -29,8 +29,8 @@ fn codes_are_those_of_the_standard(rt: HostRuntime) -> Result<(), Fail> {
     Ok(())
 }
 
-// The first is in common use, the second of RFC 7914, section 11, and the third the SHA-256 sibling of the last but one of
-// RFC 6070: more than one round, and a length that is no whole number of blocks.
+// The first is in common use, the second of RFC 7914, section 11, and the third the SHA-256 sibling of the last but one
+// of RFC 6070: more than one round, and a length that is no whole number of blocks.
 #[test]
 fn keys_are_those_of_the_standard(rt: HostRuntime) -> Result<(), Fail> {
     let mut key = [0; 32];

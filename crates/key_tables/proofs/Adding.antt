@@ -68,12 +68,14 @@ adds_one before now new xs row added pushed stands = record {
   stand = after_added before now xs (row ∷ []) added ∙ ap (λ fault. option_or fault None) stands;
 }
 
-is_first : (fault : BuildFault) (found later : Option BuildFault) → IsFault fault found → IsFault fault (option_or found later)
+is_first : (fault : BuildFault) (found later : Option BuildFault) → IsFault fault found
+    → IsFault fault (option_or found later)
 is_first NoMemory found later h = tt
 is_first (Twice i) found later h = ap (λ o. option_or o later) h
 is_first (TooMany i) found later h = ap (λ o. option_or o later) h
 
-stops_at : (before now xs ys : List Row) (row : Row) (fault : BuildFault) → Adds before now xs → IsFault fault (row_fault now row)
+stops_at : (before now xs ys : List Row) (row : Row) (fault : BuildFault) → Adds before now xs
+    → IsFault fault (row_fault now row)
     → IsFault fault (first_fault before (xs ++ row ∷ ys))
 stops_at before now xs ys row fault added h =
     subst (λ found. IsFault fault found) (sym (after_added before now xs (row ∷ ys) added))
@@ -125,7 +127,8 @@ none_kept p before now rows i d within dropped added =
     (sym (filter_more p rows i d within ∙ ap (λ b. front ++ cond b (row ∷ []) []) dropped ∙ append-nil front))
     added
 
-pub stops_keeping : (p : Row → Bool) (before now rows : List Row) (i : ℕ) (d : Row) (fault : BuildFault) → i < length rows
+pub stops_keeping : (p : Row → Bool) (before now rows : List Row) (i : ℕ) (d : Row) (fault : BuildFault)
+    → i < length rows
     → p (slice_index_or rows i d) ≡ true → Adds before now (filter p (take i rows))
     → IsFault fault (row_fault now (slice_index_or rows i d)) → IsFault fault (first_fault before (filter p rows))
 stops_keeping p before now rows i d fault within kept added h =
@@ -141,7 +144,8 @@ stops_keeping p before now rows i d fault within kept added h =
 
 -- ---- the rows of two lists, merged
 
-pub merge_added : (over under first both : List Row) → Adds [] first over → Adds first both (filter (is_kept over) under)
+pub merge_added : (over under first both : List Row) → Adds [] first over
+    → Adds first both (filter (is_kept over) under)
     → build_fault (merged over under) ≡ None
 unfolding build_fault merged
 merge_added over under first both above below =

@@ -16,7 +16,8 @@ found true key later rows this own same h = sym same
 found false key later rows this own same h = h
 
 searched : (rows : List Row) (channel : Channel)
-    → option_map (λ key. key.key) (find (is_of channel) (expanded_keys rows)) ≡ option_and_then row_key (find (is_key_row channel) rows)
+    → option_map (λ key. key.key) (find (is_of channel) (expanded_keys rows))
+    ≡ option_and_then row_key (find (is_key_row channel) rows)
 searched [] wanted = refl
 searched (row.Group address key level ∷ rows) wanted =
     found (same_channel wanted (channel.Group address)) key _ _ (row.Group address key level)
@@ -26,7 +27,8 @@ searched (row.Tool device key ∷ rows) wanted =
     (record { channel = channel.Tool device; key = key }) refl (searched rows wanted)
 searched (row.Role channel sender role ∷ rows) wanted = searched rows wanted
 
-pub key_found : (keys : List KeyRow) (rows : List Row) (channel : Channel) (key : Option KeyRow) → keys ≡ expanded_keys rows
+pub key_found : (keys : List KeyRow) (rows : List Row) (channel : Channel) (key : Option KeyRow)
+    → keys ≡ expanded_keys rows
     → key ≡ find (is_of channel) keys → option_map (λ key. key.key) key ≡ key_of rows channel
 unfolding key_of
 key_found keys rows channel key all found =

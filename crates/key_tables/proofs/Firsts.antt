@@ -12,7 +12,8 @@ pub first_of-append : {A B : Type 0} (test : List A → A → Option B) (before 
 first_of-append test before [] ys = ap (λ earlier. first_of test earlier ys) (sym (append-nil before))
 first_of-append test before (x ∷ xs) ys =
     ap (λ later. option_or (test before x) later) (first_of-append test (before ++ x ∷ []) xs ys)
-    ∙ ap (λ earlier. option_or (test before x) (option_or (first_of test (before ++ x ∷ []) xs) (first_of test earlier ys)))
+    ∙ ap (λ earlier. option_or (test before x) (option_or (first_of test (before ++ x ∷ []) xs)
+    (first_of test earlier ys)))
     (append_assoc before (x ∷ []) xs)
     ∙ or_assoc (test before x) (first_of test (before ++ x ∷ []) xs) (first_of test (before ++ x ∷ xs) ys)
 

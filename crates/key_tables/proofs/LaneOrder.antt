@@ -1,4 +1,5 @@
--- Lanes in their order: the order of the type is the one of the rules, and two lists that ascend with the same lanes are one.
+-- Lanes in their order: the order of the type is the one of the rules, and two lists that ascend with the same lanes
+-- are one.
 use Prim.Native.Nat.{suc}
 use Rattle.std.proofs.Common.{◌≡◌, ℕ, ◌<◌, ◌&&◌, ◌||◌, Bool, true, false, cond, nat_lt, Ordering, Less, Equal, Greater, arith, List, [], ◌∷◌, length, Option, Some, None, ◌+◌, refl, sym, ap, subst, ◌∙◌, slice_index_or}
 use Rattle.std.specs.Prelude.{◌==◌, not, slice_get, position}
@@ -42,7 +43,8 @@ total = record {
   congr = λ x y z equal. sym (cmp_is x z) ∙ total-law.congr x y z (cmp_is x y ∙ equal) ∙ cmp_is y z;
 }
 
-equal_where : (less equal : Bool) → (less ≡ true → equal ≡ false) → is_eq (cond less Less (cond equal Equal Greater)) ≡ equal
+equal_where : (less equal : Bool) → (less ≡ true → equal ≡ false)
+    → is_eq (cond less Less (cond equal Equal Greater)) ≡ equal
 equal_where true equal apart = sym (apart refl)
 equal_where false true apart = refl
 equal_where false false apart = refl
@@ -93,24 +95,29 @@ apart a b below = sym (same_is_equal a b) ∙ ap is_eq below
 flipped : (a b : Lane) (o : Ordering) → lane_cmp a b ≡ o → lane_cmp b a ≡ ordering_reverse o
 flipped a b o is = total.antisymm b a ∙ ap ordering_reverse is
 
-pub none_twice : (lanes : List Lane) → IsStrictlySortedBy lane_cmp lanes → AllPairs (λ lane other. same_lane lane other ≡ false) lanes
+pub none_twice : (lanes : List Lane) → IsStrictlySortedBy lane_cmp lanes
+    → AllPairs (λ lane other. same_lane lane other ≡ false) lanes
 none_twice lanes ascend i j d before within =
-    apart (slice_index_or lanes i d) (slice_index_or lanes j d) (Less-from_sorted lane_cmp lanes i j d ascend before within)
+    apart (slice_index_or lanes i d) (slice_index_or lanes j d)
+    (Less-from_sorted lane_cmp lanes i j d ascend before within)
 
 -- ---- lists that ascend with the same lanes
 
 abbrev IsAfter : Lane → List Lane → Type 0
 IsAfter lane lanes = AllByRecursion (λ later. lane_cmp lane later ≡ Less) lanes
 
-after_first : (lane other : Lane) (lanes : List Lane) → lane_cmp lane other ≡ Less → IsAfter other lanes → IsAfter lane lanes
+after_first : (lane other : Lane) (lanes : List Lane) → lane_cmp lane other ≡ Less → IsAfter other lanes
+    → IsAfter lane lanes
 after_first lane other [] below after = tt
-after_first lane other (this ∷ lanes) below after = (total.trans lane other this below after.0, after_first lane other lanes below after.1)
+after_first lane other (this ∷ lanes) below after =
+    (total.trans lane other this below after.0, after_first lane other lanes below after.1)
 
 not_after : (lane : Lane) (lanes : List Lane) → IsAfter lane lanes → has_lane lanes lane ≡ false
 not_after lane [] after = refl
 not_after lane (this ∷ lanes) after = (λ i. apart lane this after.0 i || not_after lane lanes after.1 i)
 
-not_in : (lane other : Lane) (lanes : List Lane) → lane_cmp lane other ≡ Less → IsAfter other lanes → has_lane (other ∷ lanes) lane ≡ false
+not_in : (lane other : Lane) (lanes : List Lane) → lane_cmp lane other ≡ Less → IsAfter other lanes
+    → has_lane (other ∷ lanes) lane ≡ false
 not_in lane other lanes below after =
     (λ i. apart lane other below i || not_after lane lanes (after_first lane other lanes below after) i)
 
@@ -122,10 +129,13 @@ abbrev pub HaveSame : List Lane → List Lane → Type 0
 HaveSame lanes others = (lane : Lane) → has_lane lanes lane ≡ has_lane others lane
 
 -- what is first here is not before what is first there
-not_less : (a b : Lane) (others lanes : List Lane) → IsAfter b lanes → has_lane (a ∷ others) a ≡ has_lane (b ∷ lanes) a → lane_cmp a b ≡ Less → ⊥
-not_less a b others lanes after same below = false≢true (sym (not_in a b lanes below after) ∙ sym same ∙ first_there a others)
+not_less : (a b : Lane) (others lanes : List Lane) → IsAfter b lanes → has_lane (a ∷ others) a ≡ has_lane (b ∷ lanes) a
+    → lane_cmp a b ≡ Less → ⊥
+not_less a b others lanes after same below =
+    false≢true (sym (not_in a b lanes below after) ∙ sym same ∙ first_there a others)
 
-rest_of : (same rest others : Bool) → (same ≡ true → rest ≡ false) → (same ≡ true → others ≡ false) → (same || rest) ≡ (same || others) → rest ≡ others
+rest_of : (same rest others : Bool) → (same ≡ true → rest ≡ false) → (same ≡ true → others ≡ false)
+    → (same || rest) ≡ (same || others) → rest ≡ others
 rest_of true rest others here there is = here refl ∙ sym (there refl)
 rest_of false rest others here there is = is
 
@@ -138,19 +148,22 @@ rests_same first lanes others after then same lane =
     (λ is. ap (has_lane others) (same_lane-is lane first is) ∙ not_after first others then)
     (same lane)
 
-firsts_are : (a first : Lane) (lanes others : List Lane) → IsAfter a lanes → IsAfter first others → HaveSame (a ∷ lanes) (first ∷ others)
+firsts_are : (a first : Lane) (lanes others : List Lane) → IsAfter a lanes → IsAfter first others
+    → HaveSame (a ∷ lanes) (first ∷ others)
     → (HaveSame lanes others → lanes ≡ others) → a ≡ first → a ∷ lanes ≡ first ∷ others
 firsts_are a first lanes others after then same rest is =
     let have = subst (λ l. HaveSame (l ∷ lanes) (first ∷ others)) is same in
     let before = subst (λ l. IsAfter l lanes) is after in
     λ i. is i ∷ rest (rests_same first lanes others before then have) i
 
-by_order : (a b : Lane) (lanes others : List Lane) → IsAfter a lanes → IsAfter b others → HaveSame (a ∷ lanes) (b ∷ others)
+by_order : (a b : Lane) (lanes others : List Lane) → IsAfter a lanes → IsAfter b others
+    → HaveSame (a ∷ lanes) (b ∷ others)
     → (HaveSame lanes others → lanes ≡ others) → (o : Ordering) → lane_cmp a b ≡ o → a ∷ lanes ≡ b ∷ others
 by_order a b lanes others after then same rest Less below = absurd (not_less a b lanes others then (same a) below)
 by_order a b lanes others after then same rest Greater above =
     absurd (not_less b a others lanes after (sym (same b)) (flipped a b Greater above))
-by_order a b lanes others after then same rest Equal equal = firsts_are a b lanes others after then same rest (equal_is a b equal)
+by_order a b lanes others after then same rest Equal equal =
+    firsts_are a b lanes others after then same rest (equal_is a b equal)
 
 pub one_list : (lanes others : List Lane) → IsStrictlySortedBy lane_cmp lanes → IsStrictlySortedBy lane_cmp others
     → HaveSame lanes others → lanes ≡ others
@@ -163,25 +176,33 @@ one_list (a ∷ lanes) (b ∷ others) ascend then same =
 
 -- ---- putting lanes in order
 
-which : (P : List Lane → Type 0) (o : Ordering) (before among after : List Lane) → (o ≡ Less → P before) → (o ≡ Equal → P among) → (o ≡ Greater → P after)
+which : (P : List Lane → Type 0) (o : Ordering) (before among after : List Lane) → (o ≡ Less → P before)
+    → (o ≡ Equal → P among) → (o ≡ Greater → P after)
     → P (match_ordering o before among after)
 which P Less before among after first second third = first refl
 which P Equal before among after first second third = second refl
 which P Greater before among after first second third = third refl
 
-with_after : (bound lane : Lane) (lanes : List Lane) → lane_cmp bound lane ≡ Less → IsAfter bound lanes → IsAfter bound (with_lane lane lanes)
+with_after : (bound lane : Lane) (lanes : List Lane) → lane_cmp bound lane ≡ Less → IsAfter bound lanes
+    → IsAfter bound (with_lane lane lanes)
 with_after bound lane [] below after = (below, tt)
 with_after bound lane (other ∷ lanes) below after =
     which (IsAfter bound) (lane_cmp lane other) (lane ∷ other ∷ lanes) (other ∷ lanes) (other ∷ with_lane lane lanes)
     (λ _. (below, after)) (λ _. after) (λ _. (after.0, with_after bound lane lanes below after.1))
 
-with_ascends : (lane : Lane) (lanes : List Lane) → IsStrictlySortedBy lane_cmp lanes → IsStrictlySortedBy lane_cmp (with_lane lane lanes)
+with_ascends : (lane : Lane) (lanes : List Lane) → IsStrictlySortedBy lane_cmp lanes
+    → IsStrictlySortedBy lane_cmp (with_lane lane lanes)
 unfolding IsStrictlySortedBy
 with_ascends lane [] ascend = (tt, tt)
 with_ascends lane (other ∷ lanes) ascend =
-    which (IsStrictlySortedBy lane_cmp) (lane_cmp lane other) (lane ∷ other ∷ lanes) (other ∷ lanes) (other ∷ with_lane lane lanes)
+    which (IsStrictlySortedBy lane_cmp) (lane_cmp lane other) (lane ∷ other ∷ lanes) (other ∷ lanes)
+    (other ∷ with_lane lane lanes)
     (λ below. ((below, after_first lane other lanes below ascend.0), ascend)) (λ _. ascend)
-    (λ above. (with_after other lane lanes (flipped lane other Greater above) ascend.0, with_ascends lane lanes ascend.1))
+    (λ above. (
+      with_after other lane lanes (flipped lane other Greater above) ascend.0,
+      with_ascends lane lanes
+          ascend.1,
+    ))
 
 pub order_ascends : (lanes : List Lane) → IsStrictlySortedBy lane_cmp (in_order lanes)
 unfolding IsStrictlySortedBy
@@ -198,18 +219,22 @@ in_turn true false c = refl
 in_turn false true c = refl
 in_turn false false c = refl
 
-with_has : (lane : Lane) (lanes : List Lane) (asked : Lane) → has_lane (with_lane lane lanes) asked ≡ has_lane (lane ∷ lanes) asked
+with_has : (lane : Lane) (lanes : List Lane) (asked : Lane)
+    → has_lane (with_lane lane lanes) asked ≡ has_lane (lane ∷ lanes) asked
 with_has lane [] asked = refl
 with_has lane (other ∷ lanes) asked =
-    which (λ all. has_lane all asked ≡ has_lane (lane ∷ other ∷ lanes) asked) (lane_cmp lane other) (lane ∷ other ∷ lanes) (other ∷ lanes)
+    which (λ all. has_lane all asked ≡ has_lane (lane ∷ other ∷ lanes) asked) (lane_cmp lane other)
+    (lane ∷ other ∷ lanes) (other ∷ lanes)
     (other ∷ with_lane lane lanes) (λ _. refl)
     (λ equal. twice_is_once (same_lane asked other) (has_lane lanes asked)
     ∙ ap (λ l. same_lane asked l || has_lane (other ∷ lanes) asked) (sym (equal_is lane other equal)))
-    (λ _. ap (λ b. same_lane asked other || b) (with_has lane lanes asked) ∙ in_turn (same_lane asked lane) (same_lane asked other) (has_lane lanes asked))
+    (λ _. ap (λ b. same_lane asked other || b) (with_has lane lanes asked)
+    ∙ in_turn (same_lane asked lane) (same_lane asked other) (has_lane lanes asked))
 
 pub order_has : (lanes : List Lane) (asked : Lane) → has_lane (in_order lanes) asked ≡ has_lane lanes asked
 order_has [] asked = refl
-order_has (lane ∷ lanes) asked = with_has lane (in_order lanes) asked ∙ ap (λ b. same_lane asked lane || b) (order_has lanes asked)
+order_has (lane ∷ lanes) asked =
+    with_has lane (in_order lanes) asked ∙ ap (λ b. same_lane asked lane || b) (order_has lanes asked)
 
 -- ---- places
 
@@ -226,16 +251,20 @@ found : (p : Lane → Bool) (lanes : List Lane) → nat_lt (position_or_len p la
 found p [] = refl
 found p (lane ∷ lanes) = found_where p (p lane) (list_any p lanes) (position_or_len p lanes) lanes (found p lanes)
 
-pub place_there : (lanes : List Lane) (lane : Lane) (place : Option ℕ) → place ≡ position (same_lane lane) lanes → is_some place ≡ has_lane lanes lane
+pub place_there : (lanes : List Lane) (lane : Lane) (place : Option ℕ) → place ≡ position (same_lane lane) lanes
+    → is_some place ≡ has_lane lanes lane
 place_there lanes lane place is =
-    ap is_some is ∙ some_where (nat_lt (position_or_len (same_lane lane) lanes) (length lanes)) (position_or_len (same_lane lane) lanes)
+    ap is_some is ∙ some_where (nat_lt (position_or_len (same_lane lane) lanes) (length lanes))
+    (position_or_len (same_lane lane) lanes)
     ∙ found (same_lane lane) lanes
 
-pub place_within : (lanes : List Lane) (lane : Lane) (place : Option ℕ) → place ≡ position (same_lane lane) lanes → IfSome place (λ i. i < length lanes)
+pub place_within : (lanes : List Lane) (lane : Lane) (place : Option ℕ) → place ≡ position (same_lane lane) lanes
+    → IfSome place (λ i. i < length lanes)
 place_within lanes lane None is = tt
 place_within lanes lane (Some i) is = (position-Some (same_lane lane) lanes i lane (sym is)).0
 
-pub place_at : (lanes : List Lane) (lane : Lane) (place : Option ℕ) → place ≡ position (same_lane lane) lanes → IfSome place (λ i. slice_get lanes i ≡ Some lane)
+pub place_at : (lanes : List Lane) (lane : Lane) (place : Option ℕ) → place ≡ position (same_lane lane) lanes
+    → IfSome place (λ i. slice_get lanes i ≡ Some lane)
 place_at lanes lane None is = tt
 place_at lanes lane (Some i) is =
     let at = position-Some (same_lane lane) lanes i lane (sym is) in

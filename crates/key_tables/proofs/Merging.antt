@@ -9,7 +9,7 @@ use Rattle.key_tables.specs.declared.types.Channel.TheVariants as channel
 use Rattle.key_tables.specs.declared.types.Row.{Row}
 use Rattle.key_tables.specs.declared.types.Row.TheVariants as row
 use Rattle.key_tables.specs.Rows.{same_channel, same_sender, is_channel, is_key_row, is_role_row, role_channel, row_key, row_level, row_role, device_role, key_of, level_of, named_role, role_of}
-use Rattle.key_tables.specs.Build.{displaces, is_kept, has_roles, merged, KeysMerge, LevelsMerge, RolesMerge}
+use Rattle.key_tables.specs.Build.{displaces, is_kept, has_roles, merged, KeysMerge, LevelsMerge, RolesMerge, LookUpsMerge}
 use Rattle.key_tables.proofs.Unique.{found_where, key_row_has_key, key_row_has_level, same_is, both_true}
 
 -- ---- options
@@ -38,7 +38,8 @@ or_then says None later h = refl
 
 -- ---- searches
 
-find_step : (b any : Bool) (this : Row) (later : Option Row) → is_some later ≡ any → is_some (cond b (Some this) later) ≡ (b || any)
+find_step : (b any : Bool) (this : Row) (later : Option Row) → is_some later ≡ any
+    → is_some (cond b (Some this) later) ≡ (b || any)
 find_step true any this later h = refl
 find_step false any this later h = h
 
@@ -51,7 +52,8 @@ any_same p q same [] = refl
 any_same p q same (this ∷ rows) =
     ap (λ b. b || list_any p rows) (same this) ∙ ap (λ any. q this || any) (any_same p q same rows)
 
-weaker_step : (b c any_b any_c : Bool) → (b ≡ true → c ≡ true) → (any_c ≡ false → any_b ≡ false) → (c || any_c) ≡ false → (b || any_b) ≡ false
+weaker_step : (b c any_b any_c : Bool) → (b ≡ true → c ≡ true) → (any_c ≡ false → any_b ≡ false) → (c || any_c) ≡ false
+    → (b || any_b) ≡ false
 weaker_step true c any_b any_c h later e = let c_true = h refl in absurd cc
 weaker_step false true any_b any_c h later e = absurd cc
 weaker_step false false any_b any_c h later e = later e
@@ -68,9 +70,11 @@ kept_step p this ys zs true false e h later = let no = h refl in absurd cc
 kept_step p this ys zs false true e h later = ap (λ b. cond b (Some this) (find p ys)) e ∙ later
 kept_step p this ys zs false false e h later = later
 
-find_kept : (p q : Row → Bool) → ((row : Row) → p row ≡ true → q row ≡ true) → (rows : List Row) → find p (filter q rows) ≡ find p rows
+find_kept : (p q : Row → Bool) → ((row : Row) → p row ≡ true → q row ≡ true) → (rows : List Row)
+    → find p (filter q rows) ≡ find p rows
 find_kept p q h [] = refl
-find_kept p q h (this ∷ rows) = kept_step p this (filter q rows) rows (p this) (q this) refl (h this) (find_kept p q h rows)
+find_kept p q h (this ∷ rows) =
+    kept_step p this (filter q rows) rows (p this) (q this) refl (h this) (find_kept p q h rows)
 
 dropped_step : (p : Row → Bool) (this : Row) (ys : List Row) (b c : Bool) → p this ≡ b → (b ≡ true → c ≡ false)
     → find p ys ≡ None → find p (cond c (this ∷ ys) ys) ≡ None
@@ -78,14 +82,18 @@ dropped_step p this ys true true e h later = let no = h refl in absurd cc
 dropped_step p this ys false true e h later = ap (λ b. cond b (Some this) (find p ys)) e ∙ later
 dropped_step p this ys b false e h later = later
 
-find_dropped : (p q : Row → Bool) → ((row : Row) → p row ≡ true → q row ≡ false) → (rows : List Row) → find p (filter q rows) ≡ None
+find_dropped : (p q : Row → Bool) → ((row : Row) → p row ≡ true → q row ≡ false) → (rows : List Row)
+    → find p (filter q rows) ≡ None
 find_dropped p q h [] = refl
-find_dropped p q h (this ∷ rows) = dropped_step p this (filter q rows) (p this) (q this) refl (h this) (find_dropped p q h rows)
+find_dropped p q h (this ∷ rows) =
+    dropped_step p this (filter q rows) (p this) (q this) refl (h this) (find_dropped p q h rows)
 
 -- ---- which rows are displaced
 
-key_displaces : (wanted : Channel) (this other : Row) → is_key_row wanted this ≡ true → is_key_row wanted other ≡ displaces this other
-key_displaces wanted (row.Group address _ _) other h = ap (λ c. is_key_row c other) (same_is wanted (channel.Group address) h)
+key_displaces : (wanted : Channel) (this other : Row) → is_key_row wanted this ≡ true
+    → is_key_row wanted other ≡ displaces this other
+key_displaces wanted (row.Group address _ _) other h =
+    ap (λ c. is_key_row c other) (same_is wanted (channel.Group address) h)
 key_displaces wanted (row.Tool device _) other h = ap (λ c. is_key_row c other) (same_is wanted (channel.Tool device) h)
 key_displaces wanted (row.Role _ _ _) other h = absurd cc
 
@@ -93,7 +101,8 @@ on_channel : (wanted : Channel) (sender : Option IndAddr) (this : Row) → is_ro
     → is_channel wanted (role_channel this) ≡ true
 on_channel wanted sender (row.Group _ _ _) h = absurd cc
 on_channel wanted sender (row.Tool _ _) h = absurd cc
-on_channel wanted sender (row.Role other named _) h = (both_true (same_channel wanted other) (same_sender sender named) h).0
+on_channel wanted sender (row.Role other named _) h =
+    (both_true (same_channel wanted other) (same_sender sender named) h).0
 
 role_displaces : (wanted : Channel) (this other : Row) → is_channel wanted (role_channel this) ≡ true
     → is_channel wanted (role_channel other) ≡ displaces this other
@@ -106,11 +115,13 @@ role_displaces wanted (row.Role own _ _) other h = ap (λ c. is_channel c (role_
 key_part : {A : Type 0} (says : Row → Option A) (wanted : Channel) (over under : List Row)
     → ((row : Row) → is_key_row wanted row ≡ true → is_some (says row) ≡ true)
     → option_and_then says (find (is_key_row wanted) (merged over under))
-    ≡ option_or (option_and_then says (find (is_key_row wanted) over)) (option_and_then says (find (is_key_row wanted) under))
+    ≡ option_or (option_and_then says (find (is_key_row wanted) over))
+    (option_and_then says (find (is_key_row wanted) under))
 unfolding merged
 key_part {A} says wanted over under each =
     ap (option_and_then says) (find-append p over (filter (is_kept over) under))
-    ∙ or_then says (find p over) (find p (filter (is_kept over) under)) (found_where p says each over ∙ sym (find_where p over))
+    ∙ or_then says (find p over) (find p (filter (is_kept over) under))
+    (found_where p says each over ∙ sym (find_where p over))
     ∙ by (list_any p over) refl
   where
     p : Row → Bool
@@ -136,7 +147,8 @@ levels_merge over under channel = key_part row_level channel over under (key_row
 -- ---- roles
 
 named_part : (wanted : Channel) (sender : Option IndAddr) (over under : List Row)
-    → named_role (merged over under) wanted sender ≡ named_role (if has_roles over wanted then over else under) wanted sender
+    → named_role (merged over under) wanted sender ≡ named_role (if has_roles over wanted then over else under) wanted
+    sender
 unfolding merged named_role
 named_part wanted sender over under =
     ap (option_and_then row_role) (find-append p over (filter (is_kept over) under) ∙ by (has_roles over wanted) refl)
@@ -170,3 +182,10 @@ roles_merge over under channel sender =
     ∙ ap (λ any. option_or (named_role (if has_roles over channel then over else under) channel (Some sender))
     (option_or any (device_role channel sender)))
     (named_part channel None over under)
+
+pub look_ups_merge : (over under : List Row) → LookUpsMerge over under
+look_ups_merge over under = record {
+  keys = keys_merge over under;
+  levels = levels_merge over under;
+  roles = roles_merge over under;
+}

@@ -42,14 +42,16 @@ once_same lanes asked = both_ways (has_lane (dedup same_lane lanes) asked) (has_
         let any = Any-from_list_any (same_lane asked) lanes has in
         let is = sym (same_lane-is asked any.1 any.4) in
         list_any-from_Any (same_lane asked) (dedup same_lane lanes)
-        (subst (λ l. Any (λ y. same_lane l y ≡ true) (dedup same_lane lanes)) is (Any-dedup equivalence lanes any.1 (any.0, any.2, any.3)))
+        (subst (λ l. Any (λ y. same_lane l y ≡ true) (dedup same_lane lanes)) is
+        (Any-dedup equivalence lanes any.1 (any.0, any.2, any.3)))
 
 pub record AreSorted (given sorted : List Lane) : Type 0 where
   pub ascend : IsStrictlySortedBy lane_cmp sorted
   pub same : HaveSame sorted given
 
 pub sorted_once : (same : Lane → Lane → Bool) (cmp : Lane → Lane → Ordering) → ((a b : Lane) → same a b ≡ same_lane a b)
-    → ((a b : Lane) → cmp a b ≡ lane_cmp a b) → (given sorted once : List Lane) → IsPermutation given sorted → IsSorted cmp sorted
+    → ((a b : Lane) → cmp a b ≡ lane_cmp a b) → (given sorted once : List Lane) → IsPermutation given sorted
+    → IsSorted cmp sorted
     → once ≡ dedup same sorted → AreSorted given once
 sorted_once same cmp same_is cmp_is given sorted once moved ascend is =
     let cmps : cmp ≡ lane_cmp = λ i a b. cmp_is a b i in
@@ -66,4 +68,5 @@ pub are_lanes_of : (rows : List Row) (node : IndAddr) (groups : List GroupAddr) 
 unfolding lanes_of
 are_lanes_of rows node groups given once named sorted =
     one_list once (lanes_of rows node groups) sorted.ascend (order_ascends (named_lanes rows node groups))
-    (λ asked. sorted.same asked ∙ ap (λ lanes. has_lane lanes asked) named ∙ sym (order_has (named_lanes rows node groups) asked))
+    (λ asked. sorted.same asked ∙ ap (λ lanes. has_lane lanes asked) named
+    ∙ sym (order_has (named_lanes rows node groups) asked))

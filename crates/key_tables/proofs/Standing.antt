@@ -39,7 +39,8 @@ both_hold false b first second = absurd cc
 -- a row that another repeats repeats it
 repeats_back : (this other : Row) → repeats other this ≡ true → repeats this other ≡ true
 repeats_back this (row.Group address key level) h =
-    sym (key_repeats (channel.Group address) this (row.Group address key level) h) ∙ channel_itself (channel.Group address)
+    sym (key_repeats (channel.Group address) this (row.Group address key level) h)
+    ∙ channel_itself (channel.Group address)
 repeats_back this (row.Tool device key) h =
     sym (key_repeats (channel.Tool device) this (row.Tool device key) h) ∙ channel_itself (channel.Tool device)
 repeats_back this (row.Role c sender role) h =
@@ -59,12 +60,15 @@ none_passes p rows none k d within =
 
 -- ---- one row more
 
-pub one_more_once : (rows : List Row) (row : Row) → NoneTwice rows → row_fault rows row ≡ None → NoneTwice (rows ++ row ∷ [])
+pub one_more_once : (rows : List Row) (row : Row) → NoneTwice rows → row_fault rows row ≡ None
+    → NoneTwice (rows ++ row ∷ [])
 one_more_once rows row once stands =
     all_pairs_push AreApart rows row once
-    (λ k d within. apart row (slice_index_or rows k d) (none_passes (repeats row) rows (stands_alone rows row stands) k d within))
+    (λ k d within. apart row (slice_index_or rows k d) (none_passes (repeats row) rows (stands_alone rows row stands) k
+    d within))
 
-pub room_for_key : (rows : List Row) (row : Row) → is_key row ≡ true → is_full rows row ≡ false → length (filter is_key rows) < most_keys
+pub room_for_key : (rows : List Row) (row : Row) → is_key row ≡ true → is_full rows row ≡ false
+    → length (filter is_key rows) < most_keys
 room_for_key rows (row.Group _ _ _) kind room = leb-false most_keys (length (filter is_key rows)) room
 room_for_key rows (row.Tool _ _) kind room = leb-false most_keys (length (filter is_key rows)) room
 room_for_key rows (row.Role _ _ _) kind room = absurd cc
@@ -82,7 +86,8 @@ pairs_append : (R : Row → Row → Type 0) (xs ys : List Row) → AllPairs R xs
 pairs_append R [] ys first second across = second
 pairs_append R (x ∷ xs) ys first second across =
     AllPairs-cons R x (xs ++ ys)
-    (All-append (R x) xs ys (λ k d within. first zero (suc k) d (omega arith) (omega arith)) (across zero x (omega arith)))
+    (All-append (R x) xs ys (λ k d within. first zero (suc k) d (omega arith) (omega arith))
+    (across zero x (omega arith)))
     (pairs_append R xs ys (λ i j d before within. first (suc i) (suc j) d (omega arith) (omega arith)) second
     (All-tail (λ y. All (R y) ys) x xs across))
 
@@ -100,7 +105,8 @@ kept_apart : (over : List Row) (this : Row) → is_kept over this ≡ true → A
 kept_apart over this kept k d within =
     apart this (slice_index_or over k d)
     (none_passes (repeats this) over
-    (none_stronger (repeats this) (displaces this) (repeats_displaces this) over (is_not (list_any (displaces this) over) kept)) k d within)
+    (none_stronger (repeats this) (displaces this) (repeats_displaces this) over
+    (is_not (list_any (displaces this) over) kept)) k d within)
 
 pub merged_once : (over under : List Row) → NoneTwice over → NoneTwice under → NoneTwice (merged over under)
 unfolding merged
@@ -112,7 +118,8 @@ merged_once over under once_over once_under =
 
 -- ---- no row is the second of its kind
 
-not_repeated : (before later : List Row) (this : Row) → NoneTwice (before ++ this ∷ later) → is_repeated before this ≡ false
+not_repeated : (before later : List Row) (this : Row) → NoneTwice (before ++ this ∷ later)
+    → is_repeated before this ≡ false
 not_repeated before later this once = list_any_none (repeats this) before (λ k d within.
     let all = before ++ this ∷ later in
     let both : AreApart (slice_index_or all k d) (slice_index_or all (length before) d) =
@@ -123,18 +130,22 @@ not_repeated before later this once = list_any_none (repeats this) before (λ k 
 
 other_fault : (repeated full : Bool) (twice place : ℕ) (later : Option BuildFault) → repeated ≡ false
     → (later ≡ Some (Twice twice) → ⊥)
-    → option_or (cond repeated (Some (Twice place)) (cond full (Some (TooMany place)) None)) later ≡ Some (Twice twice) → ⊥
+    → option_or (cond repeated (Some (Twice place)) (cond full (Some (TooMany place)) None)) later ≡ Some (Twice twice)
+    → ⊥
 other_fault true full twice place later first never found = absurd cc
 other_fault false true twice place later first never found = absurd cc
 other_fault false false twice place later first never found = never found
 
-no_first_twice : (before rows : List Row) (twice : ℕ) → NoneTwice (before ++ rows) → first_fault before rows ≡ Some (Twice twice) → ⊥
+no_first_twice : (before rows : List Row) (twice : ℕ) → NoneTwice (before ++ rows)
+    → first_fault before rows ≡ Some (Twice twice) → ⊥
 unfolding row_fault
 no_first_twice before [] twice once found = absurd cc
 no_first_twice before (this ∷ rows) twice once found =
-    other_fault (is_repeated before this) (is_full before this) twice (length before) (first_fault (before ++ this ∷ []) rows)
+    other_fault (is_repeated before this) (is_full before this) twice (length before)
+    (first_fault (before ++ this ∷ []) rows)
     (not_repeated before rows this once)
-    (no_first_twice (before ++ this ∷ []) rows twice (subst NoneTwice (sym (append_assoc before (this ∷ []) rows)) once))
+    (no_first_twice (before ++ this ∷ []) rows twice (subst NoneTwice (sym (append_assoc before (this ∷ []) rows))
+    once))
     found
 
 -- where neither list says anything twice, merging them has another fault

@@ -22,7 +22,8 @@ pub begun : (all : List (List ℕ)) → HasRead all [] all 0 []
 begun all = record { whole = refl; given_is = refl; rows_are = refl; right = refl }
 
 -- the fault of the next line, in the words of the call that takes it
-next_fault : (done : List (List ℕ)) (line : List ℕ) (given number : ℕ) (rows : List Row) → given ≡ length done → rows ≡ rows_of done
+next_fault : (done : List (List ℕ)) (line : List ℕ) (given number : ℕ) (rows : List Row) → given ≡ length done
+    → rows ≡ rows_of done
     → number ≡ given + 1 → refusal number rows (line_says line) ≡ line_fault done line
 unfolding line_fault
 next_fault done line given number rows given_is rows_are number_is =
@@ -33,7 +34,8 @@ one_row : (said : Option Row) → option_to_list said ≡ filter_map (λ o. o) (
 one_row None = refl
 one_row (Some row) = refl
 
-pub one_more_line : (done : List (List ℕ)) (line : List ℕ) → rows_of (done ++ line ∷ []) ≡ rows_of done ++ option_to_list (row_said (line_says line))
+pub one_more_line : (done : List (List ℕ)) (line : List ℕ) → rows_of (done ++ line ∷ []) ≡ rows_of done
+    ++ option_to_list (row_said (line_says line))
 one_more_line done line =
     filter_map-append (λ l. row_said (line_says l)) done (line ∷ [])
     ∙ ap (λ rows. rows_of done ++ rows) (sym (one_row (row_said (line_says line))))
@@ -45,26 +47,30 @@ pub line_taken : (all done left next : List (List ℕ)) (line : List ℕ) (given
 line_taken all done left next line given number rows now read is number_is taken right = record {
   whole = append_assoc done (line ∷ []) left ∙ ap (λ l. done ++ l) (sym is) ∙ read.whole;
   given_is = omega (arith, number_is, read.given_is, length-append done (line ∷ []));
-  rows_are = taken ∙ ap (λ before. before ++ option_to_list (row_said (line_says line))) read.rows_are ∙ sym (one_more_line done line);
+  rows_are = taken ∙ ap (λ before. before ++ option_to_list (row_said (line_says line))) read.rows_are
+      ∙ sym (one_more_line done line);
   right =
       first_after line_fault [] done (line ∷ []) read.right
       ∙ ap (λ fault. option_or fault None)
       (sym (next_fault done line given number rows read.given_is read.rows_are number_is) ∙ right);
 }
 
-refused_text : (fault : TablesFault) (found : Option TablesFault) (rows : List Row) → IsRefusal fault found → IsTextFault fault (unless found rows)
+refused_text : (fault : TablesFault) (found : Option TablesFault) (rows : List Row) → IsRefusal fault found
+    → IsTextFault fault (unless found rows)
 refused_text NoMemory found rows h = tt
 refused_text (Line n why) found rows h = ap (λ o. unless o rows) h
 refused_text (Twice n) found rows h = ap (λ o. unless o rows) h
 refused_text (TooMany n) found rows h = ap (λ o. unless o rows) h
 
-is_first : (fault : TablesFault) (found later : Option TablesFault) → IsRefusal fault found → IsRefusal fault (option_or found later)
+is_first : (fault : TablesFault) (found later : Option TablesFault) → IsRefusal fault found
+    → IsRefusal fault (option_or found later)
 is_first NoMemory found later h = tt
 is_first (Line n why) found later h = ap (λ o. option_or o later) h
 is_first (Twice n) found later h = ap (λ o. option_or o later) h
 is_first (TooMany n) found later h = ap (λ o. option_or o later) h
 
-pub line_refused : (text : List ℕ) (done left next : List (List ℕ)) (line : List ℕ) (given number : ℕ) (rows : List Row) (fault : TablesFault)
+pub line_refused : (text : List ℕ) (done left next : List (List ℕ)) (line : List ℕ) (given number : ℕ) (rows : List Row)
+    (fault : TablesFault)
     → HasRead (lines text) done next given rows → next ≡ line ∷ left → number ≡ given + 1
     → IsRefusal fault (refusal number rows (line_says line)) → IsTextFault fault (tables_of text)
 unfolding tables_of
@@ -72,13 +78,15 @@ line_refused text done left next line given number rows fault read is number_is 
     let own = next_fault done line given number rows read.given_is read.rows_are number_is in
     let later = first_of line_fault (done ++ line ∷ []) left in
     let first : first_of line_fault [] (lines text) ≡ option_or (line_fault done line) later =
-    ap (first_of line_fault []) (sym read.whole ∙ ap (λ l. done ++ l) is) ∙ first_after line_fault [] done (line ∷ left) read.right
+    ap (first_of line_fault []) (sym read.whole ∙ ap (λ l. done ++ l) is)
+    ∙ first_after line_fault [] done (line ∷ left) read.right
     in
     refused_text fault _ (rows_of (lines text))
     (subst (λ found. IsRefusal fault found) (sym first)
     (is_first fault (line_fault done line) later (subst (λ found. IsRefusal fault found) own h)))
 
-pub text_read : (text : List ℕ) (done left : List (List ℕ)) (given : ℕ) (rows : List Row) → HasRead (lines text) done left given rows
+pub text_read : (text : List ℕ) (done left : List (List ℕ)) (given : ℕ) (rows : List Row)
+    → HasRead (lines text) done left given rows
     → left ≡ [] → tables_of text ≡ Ok rows
 unfolding tables_of
 text_read text done left given rows read none =

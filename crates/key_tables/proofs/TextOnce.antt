@@ -20,21 +20,27 @@ no_fault : (number : ℕ) (fault : Option BuildFault) → option_map (at_line nu
 no_fault number None h = refl
 no_fault number (Some fault) h = absurd cc
 
-said_once : (number : ℕ) (rows : List Row) (said : Result (Option Row) Cause) → NoneTwice rows → refusal number rows said ≡ None
+said_once : (number : ℕ) (rows : List Row) (said : Result (Option Row) Cause) → NoneTwice rows
+    → refusal number rows said ≡ None
     → NoneTwice (rows ++ option_to_list (row_said said))
 said_once number rows (Err why) once right = absurd cc
 said_once number rows (Ok None) once right = subst NoneTwice (sym (append-nil rows)) once
-said_once number rows (Ok (Some row)) once right = one_more_once rows row once (no_fault number (row_fault rows row) right)
+said_once number rows (Ok (Some row)) once right =
+    one_more_once rows row once (no_fault number (row_fault rows row) right)
 
-lines_once : (before later : List (List ℕ)) → NoneTwice (rows_of before) → first_of line_fault before later ≡ None → NoneTwice (rows_of (before ++ later))
+lines_once : (before later : List (List ℕ)) → NoneTwice (rows_of before) → first_of line_fault before later ≡ None
+    → NoneTwice (rows_of (before ++ later))
 unfolding line_fault
 lines_once before [] once right = subst (λ done. NoneTwice (rows_of done)) (sym (append-nil before)) once
 lines_once before (line ∷ later) once right =
     let both = neither (line_fault before line) (first_of line_fault (before ++ line ∷ []) later) right in
-    let more = subst NoneTwice (sym (one_more_line before line)) (said_once (length before + 1) (rows_of before) (line_says line) once both.0) in
-    subst (λ done. NoneTwice (rows_of done)) (append_assoc before (line ∷ []) later) (lines_once (before ++ line ∷ []) later more both.1)
+    let more = subst NoneTwice (sym (one_more_line before line))
+    (said_once (length before + 1) (rows_of before) (line_says line) once both.0) in
+    subst (λ done. NoneTwice (rows_of done)) (append_assoc before (line ∷ []) later)
+    (lines_once (before ++ line ∷ []) later more both.1)
 
-where_right : (fault : Option TablesFault) (all rows : List Row) → unless fault all ≡ Ok rows → (fault ≡ None) × (all ≡ rows)
+where_right : (fault : Option TablesFault) (all rows : List Row) → unless fault all ≡ Ok rows → (fault ≡ None)
+    × (all ≡ rows)
 where_right None all rows is = (refl, cc)
 where_right (Some fault) all rows is = absurd cc
 

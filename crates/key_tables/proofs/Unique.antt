@@ -22,7 +22,8 @@ step_found : {A : Type 0} (b any : Bool) (this : Row) (later : Option Row) (f : 
 step_found true any this later f here h = here refl
 step_found false any this later f here h = h
 
-pub found_where : {A : Type 0} (p : Row → Bool) (f : Row → Option A) (each : (row : Row) → p row ≡ true → is_some (f row) ≡ true)
+pub found_where : {A : Type 0} (p : Row → Bool) (f : Row → Option A)
+    (each : (row : Row) → p row ≡ true → is_some (f row) ≡ true)
     (rows : List Row) → is_some (option_and_then f (find p rows)) ≡ list_any p rows
 found_where p f each [] = refl
 found_where p f each (this ∷ rows) = step_found (p this) _ this _ f (each this) (found_where p f each rows)
@@ -54,7 +55,8 @@ level_where rows channel = found_where (is_key_row channel) row_level (key_row_h
 pub named_where : (rows : List Row) (channel : Channel) (sender : Option IndAddr)
     → is_some (named_role rows channel sender) ≡ has_role rows channel sender
 unfolding named_role
-named_where rows channel sender = found_where (is_role_row channel sender) row_role (role_row_has_role channel sender) rows
+named_where rows channel sender =
+    found_where (is_role_row channel sender) row_role (role_row_has_role channel sender) rows
 
 -- ---- there is one such row
 
@@ -74,12 +76,15 @@ pub both_true : (a b : Bool) → (a && b) ≡ true → (a ≡ true) × (b ≡ tr
 both_true true b h = (refl, h)
 both_true false b h = absurd cc
 
-pub key_repeats : (wanted : Channel) (this other : Row) → is_key_row wanted this ≡ true → is_key_row wanted other ≡ repeats this other
-key_repeats wanted (row.Group address _ _) other h = ap (λ c. is_key_row c other) (same_is wanted (channel.Group address) h)
+pub key_repeats : (wanted : Channel) (this other : Row) → is_key_row wanted this ≡ true
+    → is_key_row wanted other ≡ repeats this other
+key_repeats wanted (row.Group address _ _) other h =
+    ap (λ c. is_key_row c other) (same_is wanted (channel.Group address) h)
 key_repeats wanted (row.Tool device _) other h = ap (λ c. is_key_row c other) (same_is wanted (channel.Tool device) h)
 key_repeats wanted (row.Role _ _ _) other h = absurd cc
 
-pub role_repeats : (channel : Channel) (sender : Option IndAddr) (this other : Row) → is_role_row channel sender this ≡ true
+pub role_repeats : (channel : Channel) (sender : Option IndAddr) (this other : Row)
+    → is_role_row channel sender this ≡ true
     → is_role_row channel sender other ≡ repeats this other
 role_repeats channel sender (row.Group _ _ _) other h = absurd cc
 role_repeats channel sender (row.Tool _ _) other h = absurd cc
@@ -114,10 +119,12 @@ not_before before (first ∷ rows) this zero stand within at =
     subst (λ r. list_any (repeats r) before ≡ false) at
     (stands_alone before first (no_first (row_fault before first) _ stand).0)
 not_before before (first ∷ rows) this (suc k) stand within at =
-    let later = not_before (before ++ first ∷ []) rows this k (no_first (row_fault before first) _ stand).1 (omega arith) at in
+    let later =
+    not_before (before ++ first ∷ []) rows this k (no_first (row_fault before first) _ stand).1 (omega arith) at in
     (no_part (list_any (repeats this) before) _ (sym (list_any-append (repeats this) before (first ∷ [])) ∙ later)).0
 
-one_row : (p : Row → Bool) (before rows : List Row) (this : Row) (k : ℕ) → ((other : Row) → p other ≡ repeats this other)
+one_row : (p : Row → Bool) (before rows : List Row) (this : Row) (k : ℕ)
+    → ((other : Row) → p other ≡ repeats this other)
     → p this ≡ true → first_fault before rows ≡ None → k < length rows → slice_index_or rows k this ≡ this
     → find p rows ≡ Some this
 one_row p before [] this k tells passes stand within at = absurd (omega arith)
@@ -127,7 +134,8 @@ one_row p before (first ∷ rows) this (suc k) tells passes stand within at =
     let stand_later = (no_first (row_fault before first) _ stand).1 in
     let apart = not_before (before ++ first ∷ []) rows this k stand_later (omega arith) at in
     let first_apart = (no_part (repeats this first) false
-    (no_part (list_any (repeats this) before) _ (sym (list_any-append (repeats this) before (first ∷ [])) ∙ apart)).1).0 in
+    (no_part (list_any (repeats this) before) _ (sym (list_any-append (repeats this) before (first ∷ []))
+    ∙ apart)).1).0 in
     ap (λ b. cond b (Some first) (find p rows)) (tells first ∙ first_apart)
     ∙ one_row p (before ++ first ∷ []) rows this k tells passes stand_later (omega arith) at
 
@@ -136,7 +144,8 @@ such_row : {A : Type 0} (p : Row → Bool) (says : Row → Option A) (rows : Lis
     → EachSays rows p says (option_and_then says (find p rows))
 unfolding build_fault
 such_row p says rows tells stand row there passes =
-    ap (option_and_then says) (one_row p [] rows row there.0 (λ other. tells row other passes) passes stand there.1 there.2)
+    ap (option_and_then says) (one_row p [] rows row there.0 (λ other. tells row other passes) passes stand there.1
+    there.2)
 
 pub each_key : (rows : List Row) (channel : Channel) → build_fault rows ≡ None
     → EachSays rows (is_key_row channel) row_key (key_of rows channel)
@@ -151,4 +160,5 @@ each_level rows channel stand = such_row (is_key_row channel) row_level rows (ke
 pub each_role : (rows : List Row) (channel : Channel) (sender : Option IndAddr) → build_fault rows ≡ None
     → EachSays rows (is_role_row channel sender) row_role (named_role rows channel sender)
 unfolding named_role
-each_role rows channel sender stand = such_row (is_role_row channel sender) row_role rows (role_repeats channel sender) stand
+each_role rows channel sender stand =
+    such_row (is_role_row channel sender) row_role rows (role_repeats channel sender) stand

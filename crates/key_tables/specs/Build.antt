@@ -124,10 +124,18 @@ KeysMerge over under =
 -- and so is the level
 abbrev pub LevelsMerge : List Row → List Row → Type 0
 LevelsMerge over under =
-    (channel : Channel) → level_of (merged over under) channel ≡ option_or (level_of over channel) (level_of under channel)
+    (channel : Channel) → level_of (merged over under) channel
+    ≡ option_or (level_of over channel) (level_of under channel)
 
 -- the roles are all those of the list above, where it gives any on the channel, else all those of the list below
 abbrev pub RolesMerge : List Row → List Row → Type 0
 RolesMerge over under =
     (channel : Channel) (sender : IndAddr)
-    → role_of (merged over under) channel sender ≡ role_of (if has_roles over channel then over else under) channel sender
+    → role_of (merged over under) channel sender ≡ role_of (if has_roles over channel then over else under) channel
+    sender
+
+-- What merged rows say of a channel: all of it is what one of the two lists says.
+pub record LookUpsMerge (over under : List Row) : Type 0 where
+  pub keys : KeysMerge over under
+  pub levels : LevelsMerge over under
+  pub roles : RolesMerge over under

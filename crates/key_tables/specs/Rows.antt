@@ -114,8 +114,8 @@ where_keyed channel (Some _) = Some channel
 abbrev pub keyed : List Row → Channel → Option Channel
 keyed rows channel = where_keyed channel (key_of rows channel)
 
--- The channel of a frame by its kind of destination, its tool access and its two addresses: the destination group, or, with
--- tool access, the destination device or else the source device, where it has a key.
+-- The channel of a frame by its kind of destination, its tool access and its two addresses: the destination group, or,
+-- with tool access, the destination device or else the source device, where it has a key.
 unfoldable pub channel_of : List Row → Bool → Bool → IndAddr → ℕ → Option Channel
 channel_of rows true false source destination = keyed rows (channel.Group (record { 0 = destination }))
 channel_of rows false true source destination =

@@ -8,7 +8,8 @@ use thiserror::Error;
 /// Why a list of rows is no tables.
 #[derive(Clone, Copy, Debug, Drop, PartialEq, Eq, Error)]
 pub enum BuildFault {
-    /// The row at this place, counted from 0, is of a group, a device, or a sender on a channel that a row before it is of.
+    /// The row at this place, counted from 0, is of a group, a device, or a sender on a channel that a row before it is
+    /// of.
     #[error("row {0}, counted from 0, says again what a row before it says")]
     Twice(usize),
     /// As many rows as there may be of its kind stand before the row at this place.

@@ -1,5 +1,5 @@
-//! The rows of an installation: keys of groups and devices, levels, and roles of senders; what a list of rows says of a frame,
-//! and the text that rows are read from.
+//! The rows of an installation: keys of groups and devices, levels, and roles of senders; what a list of rows says of a
+//! frame, and the text that rows are read from.
 #![tactic(auto)]
 
 mod faults;

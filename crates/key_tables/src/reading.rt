@@ -77,7 +77,8 @@ fn read_sender(word: &str) -> Result<Option<IndAddr>, Cause>
 
 /// The words that are left, where they are three.
 pub fn three_words<'a>(words: &mut Words<'a>) -> Result<(&'a str, &'a str, &'a str), Cause>
-    ensures { MatchResult result (λ three. three_words words.old ≡ Ok (three.0.now, three.1.now, three.2.now)) (λ why. three_words words.old ≡ Err why) }
+    ensures { MatchResult result (λ three. three_words words.old ≡ Ok (three.0.now, three.1.now, three.2.now))
+        (λ why. three_words words.old ≡ Err why) }
 {
     match (words.next(), words.next(), words.next(), words.next()) {
         (Some(first), Some(second), Some(third), None) => Ok((first, second, third)),
@@ -87,7 +88,8 @@ pub fn three_words<'a>(words: &mut Words<'a>) -> Result<(&'a str, &'a str, &'a s
 
 /// The words that are left, where they are two.
 pub fn two_words<'a>(words: &mut Words<'a>) -> Result<(&'a str, &'a str), Cause>
-    ensures { MatchResult result (λ two. two_words words.old ≡ Ok (two.0.now, two.1.now)) (λ why. two_words words.old ≡ Err why) }
+    ensures { MatchResult result (λ two. two_words words.old ≡ Ok (two.0.now, two.1.now))
+        (λ why. two_words words.old ≡ Err why) }
 {
     match (words.next(), words.next(), words.next()) {
         (Some(first), Some(second), None) => Ok((first, second)),
@@ -151,8 +153,8 @@ pub fn read_line(line: &[u8]) -> Result<Option<Row>, Cause>
 
 /// The rows of a tables text, in the order of their lines, or the fault of its first refused line.
 ///
-/// A line is refused as a line of text, then for an unknown first word or a wrong number of words, then for its first bad word
-/// from left to right, then because its row may not stand after the rows before it.
+/// A line is refused as a line of text, then for an unknown first word or a wrong number of words, then for its first
+/// bad word from left to right, then because its row may not stand after the rows before it.
 pub fn read_tables(alloc: Global, bytes: &[u8]) -> Result<RowList, TablesFault>
     ensures rows { IfOk result (λ rows. tables_of bytes.now ≡ Ok rows) }
     ensures fault { IfErr result (λ fault. IsTextFault fault (tables_of bytes.now)) }
@@ -171,7 +173,8 @@ fn take_line(list: &mut RowList, number: u64, line: &[u8]) -> Result<(), TablesF
     ensures taken { OnOk result (list.new ≡ list.old ++ option_to_list (row_said (line_says line.now))) }
     ensures right { IsOk result → refusal number list.old (line_says line.now) ≡ None }
     ensures fault { IfErr result (λ fault. IsRefusal fault (refusal number list.old (line_says line.now))) }
-    ensures memory { IfErr result (λ fault. fault ≡ TablesFault.NoMemory → refusal number list.old (line_says line.now) ≡ None) }
+    ensures memory { IfErr result (λ fault. fault ≡ TablesFault.NoMemory
+        → refusal number list.old (line_says line.now) ≡ None) }
 {
     match read_line(line) {
         Ok(Some(row)) => list.add(row).map_err(|fault| at_line(number, fault)),

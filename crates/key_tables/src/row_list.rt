@@ -100,7 +100,8 @@ impl RowList {
     // The same of the rows that none of the rows over them displaces.
     pub(crate) fn add_kept(&mut self, rows: &[Row], over: &[Row]) -> Result<(), BuildFault>
         ensures added { OnOk result (Adds self.old self.new (filter (is_kept over.now) rows.now)) }
-        ensures fault { IfErr result (λ fault. IsFault fault (first_fault self.old (filter (is_kept over.now) rows.now))) }
+        ensures fault { IfErr result (λ fault. IsFault fault (first_fault self.old
+            (filter (is_kept over.now) rows.now))) }
     {
         'rows: for row in rows {
             if !is_displaced(over, row) {

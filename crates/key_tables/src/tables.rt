@@ -1,6 +1,6 @@
 ghost use Rattle.std.specs.Prelude.{◌≡◌, ◌≢◌, ℕ, ◌||◌, true, false, find, None, Some, is_some, IfSome, IfOk, IfErr, IsOk};
 ghost use Rattle.std.specs.Option.{option_map, option_or};
-ghost use Rattle.key_tables.specs.Build.{build_fault, merged, AreFew, IsFault, NoneTwice, KeysMerge, LevelsMerge, RolesMerge};
+ghost use Rattle.key_tables.specs.Build.{build_fault, merged, AreFew, IsFault, NoneTwice, LookUpsMerge};
 ghost use Rattle.key_tables.specs.Expanded.{expanded_keys, is_of};
 ghost use Rattle.key_tables.specs.Rows.{is_key_row, is_role_row, row_key, row_level, row_role, is_own, has_key, has_role, EachSays, key_of, level_of, named_role, role_of, channel_of, device_role, keyed};
 
@@ -33,7 +33,8 @@ impl Model for Tables {
 }
 
 impl Tables {
-    /// The rows as tables, unless one may not stand after those before it: then the fault is that of the first such row.
+    /// The rows as tables, unless one may not stand after those before it: then the fault is that of the first such
+    /// row.
     #[tactic(auto, unfolding(crate::specs::Build::build_fault))]
     pub fn build(alloc: Global, rows: &[Row]) -> Result<Tables, BuildFault>
         ensures rows { IfOk result (λ tables. tables ≡ rows.now) }
@@ -47,20 +48,19 @@ impl Tables {
         Tables::expanded(alloc, list)
     }
 
-    /// The rows of `over`, and after them those key rows of `under` whose channel has no key in `over`, and those role rows whose
-    /// channel has no role in `over`, in their order. The place in a fault is counted in that list. Where no row of either
-    /// list says again what another of it says, a fault is never `Twice`.
-    #[tactic(auto, using(crate::proofs::Merging::keys_merge, crate::proofs::Merging::levels_merge, crate::proofs::Merging::roles_merge))]
+    /// The rows of `over`, and after them those key rows of `under` whose channel has no key in `over`, and those role
+    /// rows whose channel has no role in `over`, in their order. The place in a fault is counted in that list. Where no
+    /// row of either list says again what another of it says, a fault is never `Twice`.
+    #[tactic(auto, using(crate::proofs::Merging::look_ups_merge))]
     pub fn merge(alloc: Global, over: &[Row], under: &[Row]) -> Result<Tables, BuildFault>
         ensures rows { IfOk result (λ tables. tables ≡ merged over.now under.now) }
         ensures stand { IsOk result → build_fault (merged over.now under.now) ≡ None }
         ensures once { IfOk result (λ tables. NoneTwice tables) }
         ensures few { IfOk result (λ tables. AreFew tables) }
         ensures fault { IfErr result (λ fault. IsFault fault (build_fault (merged over.now under.now))) }
-        ensures never_twice { NoneTwice over.now → NoneTwice under.now → IfErr result (λ fault. (row : ℕ) → fault ≢ BuildFault.Twice row) }
-        ensures keys { KeysMerge over.now under.now }
-        ensures levels { LevelsMerge over.now under.now }
-        ensures roles { RolesMerge over.now under.now }
+        ensures never_twice { NoneTwice over.now → NoneTwice under.now
+            → IfErr result (λ fault. (row : ℕ) → fault ≢ BuildFault.Twice row) }
+        ensures look_ups { LookUpsMerge over.now under.now }
     {
         let list = RowList::merged(alloc, over, under)?;
         Tables::expanded(alloc, list)
@@ -104,15 +104,18 @@ impl Tables {
         level_in(self.list.as_slice(), channel)
     }
 
-    /// The role of a sender on a channel: its own row's, else that of the row for any sender, else Observe for the device whose
-    /// channel it is.
+    /// The role of a sender on a channel: its own row's, else that of the row for any sender, else Observe for the
+    /// device whose channel it is.
     #[tactic(auto, unfolding(crate::specs::Rows::role_of))]
     pub fn role(&self, channel: Channel, sender: IndAddr) -> Option<Role>
         ensures role { result ≡ role_of self.now channel sender }
-        ensures there { is_some result ≡ (has_role self.now channel (Some sender) || has_role self.now channel None || is_own channel sender) }
+        ensures there { is_some result ≡ (has_role self.now channel (Some sender) || has_role self.now channel None
+            || is_own channel sender) }
         ensures own { EachSays self.now (is_role_row channel (Some sender)) row_role result }
-        ensures any { has_role self.now channel (Some sender) ≡ false → EachSays self.now (is_role_row channel None) row_role result }
-        ensures device { has_role self.now channel (Some sender) ≡ false → has_role self.now channel None ≡ false → is_own channel sender ≡ true
+        ensures any { has_role self.now channel (Some sender) ≡ false
+            → EachSays self.now (is_role_row channel None) row_role result }
+        ensures device { has_role self.now channel (Some sender) ≡ false → has_role self.now channel None ≡ false
+            → is_own channel sender ≡ true
             → result ≡ Some Role.Observe }
     {
         match self.named_role(channel, Some(sender)) {
@@ -126,7 +129,8 @@ impl Tables {
         ensures role { result ≡ option_or (named_role self.now channel None) (device_role channel sender) }
         ensures there { is_some result ≡ (has_role self.now channel None || is_own channel sender) }
         ensures any { EachSays self.now (is_role_row channel None) row_role result }
-        ensures device { has_role self.now channel None ≡ false → is_own channel sender ≡ true → result ≡ Some Role.Observe }
+        ensures device { has_role self.now channel None ≡ false → is_own channel sender ≡ true
+            → result ≡ Some Role.Observe }
     {
         match self.named_role(channel, None) {
             Some(role) => Some(role),
@@ -143,8 +147,9 @@ impl Tables {
         role_in(self.list.as_slice(), channel, sender)
     }
 
-    /// The channel of a frame. Without tool access it is the destination, where that is a group with a key. With tool access
-    /// it is the destination, where that is a device with a tool key, or else the source device, where that has one.
+    /// The channel of a frame. Without tool access it is the destination, where that is a group with a key. With tool
+    /// access it is the destination, where that is a device with a tool key, or else the source device, where that has
+    /// one.
     #[tactic(auto, unfolding(crate::specs::Rows::channel_of))]
     pub fn channel_of(
         &self,
@@ -164,7 +169,8 @@ impl Tables {
     }
 
     fn tool_channel(&self, source: IndAddr, destination: IndAddr) -> Option<Channel>
-        ensures channel { result ≡ option_or (keyed self.now (Channel.Tool destination)) (keyed self.now (Channel.Tool source)) }
+        ensures channel { result ≡ option_or (keyed self.now (Channel.Tool destination))
+            (keyed self.now (Channel.Tool source)) }
         ensures keyed { IfSome result (λ channel. has_key self.now channel ≡ true) }
     {
         match self.keyed(Channel::Tool(destination)) {

@@ -280,8 +280,8 @@ fn one_key_too_many_is_refused_at_its_line(rt: HostRuntime) -> Result<(), Fail> 
     Ok(())
 }
 
-// Four devices, two groups and four tool keys: each device may command on both groups but the last, which may observe on the
-// first; the first device manages the others, and they may observe on its channel.
+// Four devices, two groups and four tool keys: each device may command on both groups but the last, which may observe
+// on the first; the first device manages the others, and they may observe on its channel.
 const FOUR_DEVICES: &[u8] = b"group 1/0/1 11111111111111111111111111111111 conf
 group 1/0/2 22222222222222222222222222222222 auth
 tool 1.1.1 31313131313131313131313131313131

@@ -12,8 +12,8 @@ pub enum Channel {
     Tool(IndAddr),
 }
 
-/// Where a receiver keeps the greatest number that it took: one place for each sender to groups, and one for each device and
-/// each sender on that device's channel.
+/// Where a receiver keeps the greatest number that it took: one place for each sender to groups, and one for each
+/// device and each sender on that device's channel.
 #[derive(Clone, Copy, Debug, PartialEq, Eq, PartialOrd, Ord)]
 pub enum Lane {
     /// Of this sender, whatever the group.

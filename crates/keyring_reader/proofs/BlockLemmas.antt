@@ -18,7 +18,8 @@ number_of-lt : (xs : List ℕ) → AreOctets xs → number_of xs < 256 ^ length 
 unfolding number_of
 number_of-lt [] octets = omega arith
 number_of-lt (x ∷ xs) octets =
-    more_digits x (number_of xs) (256 ^ length xs) (256 ^ length (x ∷ xs)) (octets 0) (number_of-lt xs (λ i. octets (suc i))) (pow-succ' 256 (length xs))
+    more_digits x (number_of xs) (256 ^ length xs) (256 ^ length (x ∷ xs)) (octets 0)
+    (number_of-lt xs (λ i. octets (suc i))) (pow-succ' 256 (length xs))
 
 octets_of-number : (xs : List ℕ) → AreOctets xs → octets_of (length xs) (number_of xs) ≡ xs
 unfolding number_of octets_of
@@ -49,17 +50,20 @@ none_below test (suc n) fails =
 abbrev IsOnly : (List ℕ → Bool) → ℕ → List ℕ → Type 0
 IsOnly test n b = (k : ℕ) → k < n → test (block_of k) ≡ true → block_of k ≡ b
 
-here : (test : Bool) (block b : List ℕ) → (test ≡ true → block ≡ b) → (where_true test block ≡ None) ⊎ (where_true test block ≡ Some b)
+here : (test : Bool) (block b : List ℕ) → (test ≡ true → block ≡ b) → (where_true test block ≡ None)
+    ⊎ (where_true test block ≡ Some b)
 here true block b only = inr (ap (λ (x : List ℕ). Some x) (only refl))
 here false block b only = inl refl
 
-joined : (before after : Option (List ℕ)) (b : List ℕ) → (before ≡ None) ⊎ (before ≡ Some b) → (after ≡ None) ⊎ (after ≡ Some b)
+joined : (before after : Option (List ℕ)) (b : List ℕ) → (before ≡ None) ⊎ (before ≡ Some b) → (after ≡ None)
+    ⊎ (after ≡ Some b)
     → (option_or before after ≡ None) ⊎ (option_or before after ≡ Some b)
 joined before after b (inr is) later = inr (ap (λ (o : Option (List ℕ)). option_or o after) is)
 joined before after b (inl none) (inl is) = inl (ap (λ (o : Option (List ℕ)). option_or o after) none ∙ is)
 joined before after b (inl none) (inr is) = inr (ap (λ (o : Option (List ℕ)). option_or o after) none ∙ is)
 
-only_below : (test : List ℕ → Bool) (n : ℕ) (b : List ℕ) → IsOnly test n b → (first_below test n ≡ None) ⊎ (first_below test n ≡ Some b)
+only_below : (test : List ℕ → Bool) (n : ℕ) (b : List ℕ) → IsOnly test n b → (first_below test n ≡ None)
+    ⊎ (first_below test n ≡ Some b)
 unfolding first_below
 only_below test zero b only = inl refl
 only_below test (suc n) b only =
@@ -67,14 +71,17 @@ only_below test (suc n) b only =
     (only_below test n b (λ k below. only k (omega (arith, below))))
     (here (test (block_of n)) (block_of n) b (only n (omega arith)))
 
-last_found : (before : Option (List ℕ)) (test : Bool) (block b : List ℕ) → (before ≡ None) ⊎ (before ≡ Some b) → test ≡ true → block ≡ b
+last_found : (before : Option (List ℕ)) (test : Bool) (block b : List ℕ) → (before ≡ None) ⊎ (before ≡ Some b)
+    → test ≡ true → block ≡ b
     → option_or before (where_true test block) ≡ Some b
-last_found before test block b (inr is) passes same = ap (λ (o : Option (List ℕ)). option_or o (where_true test block)) is
+last_found before test block b (inr is) passes same =
+    ap (λ (o : Option (List ℕ)). option_or o (where_true test block)) is
 last_found before test block b (inl none) passes same =
     ap (λ (o : Option (List ℕ)). option_or o (where_true test block)) none
     ∙ ap (λ (t : Bool). where_true t block) passes ∙ ap (λ (x : List ℕ). Some x) same
 
-found_below : (test : List ℕ → Bool) (n m : ℕ) (b : List ℕ) → m < n → test (block_of m) ≡ true → IsOnly test n b → first_below test n ≡ Some b
+found_below : (test : List ℕ → Bool) (n m : ℕ) (b : List ℕ) → m < n → test (block_of m) ≡ true → IsOnly test n b
+    → first_below test n ≡ Some b
 unfolding first_below
 found_below test zero m b below passes only = absurd (omega (arith, below))
 found_below test (suc n) m b below passes only = elim (cases_lt m n) [
@@ -115,7 +122,8 @@ pub no_block : (test : List ℕ → Bool) → ((b : List ℕ) → IsBlock b → 
 unfolding first_block
 no_block test fails = none_below test (256 ^ 16) (λ k below. fails (block_of k) (is_block k))
 
-last_passes : (before : Option (List ℕ)) (test : Bool) (block b : List ℕ) → option_or before (where_true test block) ≡ Some b
+last_passes : (before : Option (List ℕ)) (test : Bool) (block b : List ℕ)
+    → option_or before (where_true test block) ≡ Some b
     → (before ≡ Some b) ⊎ ((test ≡ true) × (block ≡ b))
 last_passes (Some x) test block b is = inl is
 last_passes None true block b is = inr (refl, cc)

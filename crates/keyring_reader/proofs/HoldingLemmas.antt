@@ -37,7 +37,8 @@ both_ways false true a b l r = sym (sym (eq-eqb a b (sym (eqb-true b a r))) ∙ 
 pub eqb-comm : (a b : ℕ) → (a == b) ≡ (b == a)
 eqb-comm a b = both_ways (a == b) (b == a) a b refl refl
 
-known_more : (rows : List Row) (row : Row) (channel : Channel) → has_key (rows ++ row ∷ []) channel ≡ (has_key rows channel || (is_key_row channel row || false))
+known_more : (rows : List Row) (row : Row) (channel : Channel)
+    → has_key (rows ++ row ∷ []) channel ≡ (has_key rows channel || (is_key_row channel row || false))
 known_more rows row channel = list_any-append (is_key_row channel) rows (row ∷ [])
 
 pub not_known : (known added : Bool) → added ≡ not known → added ≡ true → known ≡ false
@@ -47,42 +48,63 @@ not_known false added is new = refl
 pub taken_once : (c : Contents) (place : ℕ) (channel : Channel) (row : Row) → has_key c.rows channel ≡ false
     → with_key c place channel row ≡ Ok (record { rows = c.rows ++ row ∷ []; listings = c.listings })
 taken_once c place channel row none =
-    ap (λ (b : Bool). cond b (Err (fault.Twice place)) (Ok (record { rows = c.rows ++ row ∷ []; listings = c.listings }))) none
+    ap (λ (b : Bool). cond b (Err (fault.Twice place)) (Ok (record {
+      rows = c.rows ++ row ∷ [];
+      listings = c.listings;
+    }))) none
 
-pub taken_twice : (c : Contents) (place : ℕ) (channel : Channel) (row : Row) → has_key c.rows channel ≡ true → with_key c place channel row ≡ Err (fault.Twice place)
+pub taken_twice : (c : Contents) (place : ℕ) (channel : Channel) (row : Row) → has_key c.rows channel ≡ true
+    → with_key c place channel row ≡ Err (fault.Twice place)
 taken_twice c place channel row some =
-    ap (λ (b : Bool). cond b (Err (fault.Twice place)) (Ok (record { rows = c.rows ++ row ∷ []; listings = c.listings }))) some
+    ap (λ (b : Bool). cond b (Err (fault.Twice place)) (Ok (record {
+      rows = c.rows ++ row ∷ [];
+      listings = c.listings;
+    }))) some
 
-pub one_group : (g : Gathered) (rows : Vec Row Global) (groups : BTreeSet GroupAddr) (c : Contents) (group : GroupAddr) (key : List ℕ) → Holds g c
+pub one_group : (g : Gathered) (rows : Vec Row Global) (groups : BTreeSet GroupAddr) (c : Contents) (group : GroupAddr)
+    (key : List ℕ) → Holds g c
     → rows.items ≡ g.rows.items ++ row.Group group key Auth ∷ [] → groups.keys ≡ insert_key by_group g.groups.keys group
-    → ((q : GroupAddr) → contains by_group groups q ≡ cond (is_eq (by_group group q)) true (contains by_group g.groups q))
-    → Holds (record g { rows = rows; groups = groups }) (record { rows = c.rows ++ row.Group group key Auth ∷ []; listings = c.listings })
+    → ((q : GroupAddr) → contains by_group groups q ≡ cond (is_eq (by_group group q)) true
+    (contains by_group g.groups q))
+    → Holds (record g { rows = rows; groups = groups }) (record {
+      rows = c.rows ++ row.Group group key Auth ∷ [];
+      listings = c.listings;
+    })
 unfolding ascending
 one_group g rows groups c group key holds rows_are keys_are known = record {
   rows = rows_are ∙ ap (λ (front : List Row). front ++ row.Group group key Auth ∷ []) holds.rows;
   groups =
       keys_are ∙ ap (λ (keys : List GroupAddr). insert_key by_group keys group) holds.groups
-      ∙ sym (ap (λ (all : List GroupAddr). fold (insert_key by_group) [] all) (filter_map-append keyed_group c.rows (row.Group group key Auth ∷ []))
+      ∙ sym (ap (λ (all : List GroupAddr). fold (insert_key by_group) [] all)
+      (filter_map-append keyed_group c.rows (row.Group group key Auth ∷ []))
       ∙ fold-append (insert_key by_group) [] (filter_map keyed_group c.rows) (group ∷ []));
   devices =
       holds.devices
       ∙ sym (ap (λ (all : List IndAddr). fold (insert_key by_device) [] all)
-      (filter_map-append keyed_device c.rows (row.Group group key Auth ∷ []) ∙ append-nil (filter_map keyed_device c.rows)));
+      (filter_map-append keyed_device c.rows (row.Group group key Auth ∷ [])
+      ∙ append-nil (filter_map keyed_device c.rows)));
   group_known = λ q.
       known q
-      ∙ ap (λ (here : Bool). cond here true (contains by_group g.groups q)) (is_eq-nat_cmp group.0 q.0 ∙ eqb-comm group.0 q.0)
+      ∙ ap (λ (here : Bool). cond here true (contains by_group g.groups q))
+      (is_eq-nat_cmp group.0 q.0 ∙ eqb-comm group.0 q.0)
       ∙ ap (λ (before : Bool). cond (q.0 == group.0) true before) (holds.group_known q)
       ∙ either_or (q.0 == group.0) (has_key c.rows (channel.Group q))
       ∙ sym (known_more c.rows (row.Group group key Auth) (channel.Group q));
   device_known = λ q.
-      holds.device_known q ∙ sym (known_more c.rows (row.Group group key Auth) (channel.Tool q) ∙ or_false (has_key c.rows (channel.Tool q)));
+      holds.device_known q ∙ sym (known_more c.rows (row.Group group key Auth) (channel.Tool q)
+      ∙ or_false (has_key c.rows (channel.Tool q)));
   listed = holds.listed;
 }
 
-pub one_device : (g : Gathered) (rows : Vec Row Global) (devices : BTreeSet IndAddr) (c : Contents) (device : IndAddr) (key : List ℕ) → Holds g c
+pub one_device : (g : Gathered) (rows : Vec Row Global) (devices : BTreeSet IndAddr) (c : Contents) (device : IndAddr)
+    (key : List ℕ) → Holds g c
     → rows.items ≡ g.rows.items ++ row.Tool device key ∷ [] → devices.keys ≡ insert_key by_device g.devices.keys device
-    → ((q : IndAddr) → contains by_device devices q ≡ cond (is_eq (by_device device q)) true (contains by_device g.devices q))
-    → Holds (record g { rows = rows; devices = devices }) (record { rows = c.rows ++ row.Tool device key ∷ []; listings = c.listings })
+    → ((q : IndAddr) → contains by_device devices q ≡ cond (is_eq (by_device device q)) true
+    (contains by_device g.devices q))
+    → Holds (record g { rows = rows; devices = devices }) (record {
+      rows = c.rows ++ row.Tool device key ∷ [];
+      listings = c.listings;
+    })
 unfolding ascending
 one_device g rows devices c device key holds rows_are keys_are known = record {
   rows = rows_are ∙ ap (λ (front : List Row). front ++ row.Tool device key ∷ []) holds.rows;
@@ -92,13 +114,16 @@ one_device g rows devices c device key holds rows_are keys_are known = record {
       (filter_map-append keyed_group c.rows (row.Tool device key ∷ []) ∙ append-nil (filter_map keyed_group c.rows)));
   devices =
       keys_are ∙ ap (λ (keys : List IndAddr). insert_key by_device keys device) holds.devices
-      ∙ sym (ap (λ (all : List IndAddr). fold (insert_key by_device) [] all) (filter_map-append keyed_device c.rows (row.Tool device key ∷ []))
+      ∙ sym (ap (λ (all : List IndAddr). fold (insert_key by_device) [] all)
+      (filter_map-append keyed_device c.rows (row.Tool device key ∷ []))
       ∙ fold-append (insert_key by_device) [] (filter_map keyed_device c.rows) (device ∷ []));
   group_known = λ q.
-      holds.group_known q ∙ sym (known_more c.rows (row.Tool device key) (channel.Group q) ∙ or_false (has_key c.rows (channel.Group q)));
+      holds.group_known q ∙ sym (known_more c.rows (row.Tool device key) (channel.Group q)
+      ∙ or_false (has_key c.rows (channel.Group q)));
   device_known = λ q.
       known q
-      ∙ ap (λ (here : Bool). cond here true (contains by_device g.devices q)) (is_eq-nat_cmp device.0 q.0 ∙ eqb-comm device.0 q.0)
+      ∙ ap (λ (here : Bool). cond here true (contains by_device g.devices q))
+      (is_eq-nat_cmp device.0 q.0 ∙ eqb-comm device.0 q.0)
       ∙ ap (λ (before : Bool). cond (q.0 == device.0) true before) (holds.device_known q)
       ∙ either_or (q.0 == device.0) (has_key c.rows (channel.Tool q))
       ∙ sym (known_more c.rows (row.Tool device key) (channel.Tool q));

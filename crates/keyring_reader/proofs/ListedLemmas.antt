@@ -25,12 +25,14 @@ or_true : (b : Bool) → (b || true) ≡ true
 or_true true = refl
 or_true false = refl
 
-one_listing : (here : Bool) (listing : Listing) → flat_map (λ (l : Listing). l.senders) (cond here (listing ∷ []) []) ≡ cond here listing.senders []
+one_listing : (here : Bool) (listing : Listing) → flat_map (λ (l : Listing). l.senders) (cond here (listing ∷ []) [])
+    ≡ cond here listing.senders []
 one_listing true listing = append-nil listing.senders
 one_listing false listing = refl
 
 senders_more : (listings : List Listing) (listing : Listing) (group : GroupAddr)
-    → senders_to (listings ++ listing ∷ []) group ≡ senders_to listings group ++ cond (lists group listing) listing.senders []
+    → senders_to (listings ++ listing ∷ []) group ≡ senders_to listings group
+    ++ cond (lists group listing) listing.senders []
 senders_more listings listing group =
     ap (flat_map (λ (l : Listing). l.senders)) (filter-append (lists group) listings (listing ∷ []))
     ∙ flat_map-append (λ (l : Listing). l.senders) (filter (lists group) listings) (filter (lists group) (listing ∷ []))
@@ -44,21 +46,25 @@ other_listed : (listings : List Listing) (listing : Listing) (group : GroupAddr)
     → listed_senders (listings ++ listing ∷ []) group ≡ listed_senders listings group
 other_listed listings listing group other =
     ap (λ (b : Bool). cond b (Some (in_order (senders_to (listings ++ listing ∷ []) group))) None)
-    (list_any-append (lists group) listings (listing ∷ []) ∙ ap (λ (b : Bool). is_listed listings group || (b || false)) other
+    (list_any-append (lists group) listings (listing ∷ []) ∙ ap (λ (b : Bool). is_listed listings group || (b || false))
+    other
     ∙ or_false (is_listed listings group))
     ∙ ap (λ (devices : List IndAddr). cond (is_listed listings group) (Some (in_order devices)) None)
-    (senders_more listings listing group ∙ ap (λ (b : Bool). senders_to listings group ++ cond b listing.senders []) other
+    (senders_more listings listing group ∙ ap (λ (b : Bool). senders_to listings group ++ cond b listing.senders [])
+    other
     ∙ append-nil (senders_to listings group))
 
 none_here : (here rest : Bool) → (here || rest) ≡ false → (here ≡ false) × (rest ≡ false)
 none_here true rest none = cc
 none_here false rest none = (refl, none)
 
-no_senders : (listings : List Listing) (group : GroupAddr) → is_listed listings group ≡ false → senders_to listings group ≡ []
+no_senders : (listings : List Listing) (group : GroupAddr) → is_listed listings group ≡ false
+    → senders_to listings group ≡ []
 no_senders [] group none = refl
 no_senders (listing ∷ listings) group none =
     let parts = none_here (lists group listing) (is_listed listings group) none in
-    ap (λ (b : Bool). flat_map (λ (l : Listing). l.senders) (cond b (listing ∷ filter (lists group) listings) (filter (lists group) listings))) parts.0
+    ap (λ (b : Bool). flat_map (λ (l : Listing). l.senders) (cond b (listing ∷ filter (lists group) listings)
+    (filter (lists group) listings))) parts.0
     ∙ no_senders listings group parts.1
 
 so_far : (here : Bool) (listings : List Listing) (group : GroupAddr) → is_listed listings group ≡ here
@@ -69,22 +75,27 @@ so_far false listings group is = sym (ap in_order (no_senders listings group is)
 
 -- a listing of this group
 same_listed : (listings : List Listing) (listing : Listing) (group : GroupAddr) → lists group listing ≡ true
-    → listed_senders (listings ++ listing ∷ []) group ≡ Some (fold (insert_key by_device) (unwrap_or (listed_senders listings group) []) listing.senders)
+    → listed_senders (listings ++ listing ∷ []) group ≡ Some
+    (fold (insert_key by_device) (unwrap_or (listed_senders listings group) []) listing.senders)
 unfolding ascending
 same_listed listings listing group same =
     ap (λ (b : Bool). cond b (Some (in_order (senders_to (listings ++ listing ∷ []) group))) None)
-    (list_any-append (lists group) listings (listing ∷ []) ∙ ap (λ (b : Bool). is_listed listings group || (b || false)) same
+    (list_any-append (lists group) listings (listing ∷ []) ∙ ap (λ (b : Bool). is_listed listings group || (b || false))
+    same
     ∙ or_true (is_listed listings group))
     ∙ ap (λ (devices : List IndAddr). Some (in_order devices))
-    (senders_more listings listing group ∙ ap (λ (b : Bool). senders_to listings group ++ cond b listing.senders []) same)
-    ∙ ap (λ (devices : List IndAddr). Some devices) (fold-append (insert_key by_device) [] (senders_to listings group) listing.senders)
+    (senders_more listings listing group ∙ ap (λ (b : Bool). senders_to listings group ++ cond b listing.senders [])
+    same)
+    ∙ ap (λ (devices : List IndAddr). Some devices) (fold-append (insert_key by_device) [] (senders_to listings group)
+    listing.senders)
     ∙ ap (λ (devices : List IndAddr). Some (fold (insert_key by_device) devices listing.senders))
     (sym (so_far (is_listed listings group) listings group refl))
 
 same_group : (a b : GroupAddr) → (a.0 == b.0) ≡ true → a ≡ b
 same_group a b is = ap (λ (n : ℕ). record { 0 = n }) (eqb-true a.0 b.0 is)
 
-tests_agree : (less same : Bool) (a b : ℕ) → nat_lt a b ≡ less → (a == b) ≡ same → is_eq (cond less Less (cond same Equal Greater)) ≡ same
+tests_agree : (less same : Bool) (a b : ℕ) → nat_lt a b ≡ less → (a == b) ≡ same
+    → is_eq (cond less Less (cond same Equal Greater)) ≡ same
 tests_agree true true a b below is = absurd (omega (arith, ltb-true a b below, eqb-true a b is))
 tests_agree true false a b below is = refl
 tests_agree false true a b below is = refl
@@ -94,20 +105,26 @@ pub is_eq-nat_cmp : (a b : ℕ) → is_eq (nat_cmp a b) ≡ (a == b)
 is_eq-nat_cmp a b = tests_agree (nat_lt a b) (a == b) a b refl refl
 
 -- what the map has at the group, with a set in its place
-new_at : (here : Bool) (set : BTreeSet IndAddr) (old new : Option (BTreeSet IndAddr)) → new ≡ cond here (Some set) (cond here None old) → new ≡ cond here (Some set) old
+new_at : (here : Bool) (set : BTreeSet IndAddr) (old new : Option (BTreeSet IndAddr))
+    → new ≡ cond here (Some set) (cond here None old) → new ≡ cond here (Some set) old
 new_at true set old new is = is
 new_at false set old new is = is
 
-pub more_listed : (old removed new : BTreeMap GroupAddr (BTreeSet IndAddr)) (listings : List Listing) (listing : Listing) (set grown : BTreeSet IndAddr)
+pub more_listed : (old removed new : BTreeMap GroupAddr (BTreeSet IndAddr)) (listings : List Listing)
+    (listing : Listing) (set grown : BTreeSet IndAddr)
     → AreListed old listings → set.keys ≡ unwrap_or (option_map keys (tree.get by_group old listing.group)) []
     → grown.keys ≡ fold (insert_key by_device) set.keys listing.senders
-    → ((group : GroupAddr) → tree.get by_group removed group ≡ cond (is_eq (by_group listing.group group)) None (tree.get by_group old group))
-    → ((group : GroupAddr) → tree.get by_group new group ≡ cond (is_eq (by_group listing.group group)) (Some grown) (tree.get by_group removed group))
+    → ((group : GroupAddr) → tree.get by_group removed group
+    ≡ cond (is_eq (by_group listing.group group)) None (tree.get by_group old group))
+    → ((group : GroupAddr) → tree.get by_group new group ≡ cond (is_eq (by_group listing.group group)) (Some grown)
+    (tree.get by_group removed group))
     → AreListed new (listings ++ listing ∷ [])
 more_listed old removed new listings listing set grown are set_is grown_is removes puts = λ group.
-    let now : tree.get by_group new group ≡ cond (is_eq (by_group listing.group group)) (Some grown) (tree.get by_group old group) =
+    let now : tree.get by_group new group ≡ cond (is_eq (by_group listing.group group)) (Some grown)
+    (tree.get by_group old group) =
     new_at (is_eq (by_group listing.group group)) grown (tree.get by_group old group) (tree.get by_group new group)
-    (puts group ∙ ap (λ (o : Option (BTreeSet IndAddr)). cond (is_eq (by_group listing.group group)) (Some grown) o) (removes group)) in
+    (puts group ∙ ap (λ (o : Option (BTreeSet IndAddr)). cond (is_eq (by_group listing.group group)) (Some grown) o)
+    (removes group)) in
     let here : is_eq (by_group listing.group group) ≡ lists group listing = is_eq-nat_cmp listing.group.0 group.0 in
     elim (cases_Bool (lists group listing)) [
       | inl same ↦

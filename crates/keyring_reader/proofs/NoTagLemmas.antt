@@ -33,7 +33,8 @@ abbrev HasOwn : {A : Type 0} → Result A KeyringFault → Type 0
 HasOwn (Ok x) = Unit {0}
 HasOwn (Err why) = IsOwn why
 
-then : {A B : Type 0} (first : Result A KeyringFault) (next : A → Result B KeyringFault) → HasOwn first → ((x : A) → HasOwn (next x)) → HasOwn (first >>= next)
+then : {A B : Type 0} (first : Result A KeyringFault) (next : A → Result B KeyringFault) → HasOwn first
+    → ((x : A) → HasOwn (next x)) → HasOwn (first >>= next)
 then (Ok x) next own later = later x
 then (Err why) next own later = own
 
@@ -44,9 +45,11 @@ or_own (Some x) why own = tt
 devices_own : (place : ℕ) (words : List (List ℕ)) → HasOwn (devices_at place words)
 devices_own place [] = tt
 devices_own place (word ∷ words) =
-    then (device_at place word) _ (or_own _ (fault.Address place) tt) (λ device. then (devices_at place words) _ (devices_own place words) (λ devices. tt))
+    then (device_at place word) _ (or_own _ (fault.Address place) tt)
+    (λ device. then (devices_at place words) _ (devices_own place words) (λ devices. tt))
 
-said_own : {A : Type 0} (found : Option A) (said : A → Result Said KeyringFault) → ((x : A) → HasOwn (said x)) → HasOwn (said_of found said)
+said_own : {A : Type 0} (found : Option A) (said : A → Result Said KeyringFault) → ((x : A) → HasOwn (said x))
+    → HasOwn (said_of found said)
 said_own None said own = tt
 said_own (Some x) said own = own x
 
@@ -62,35 +65,45 @@ group_own : (under : Wrapping) (place : ℕ) (address text : Option (List ℕ))
     group_at place a >>= (λ group. key_at under place t >>= (λ key. Ok (GroupKey group key))))))
 group_own under place None text = tt
 group_own under place (Some a) None = tt
-group_own under place (Some a) (Some t) = both_own place (group_named a) (key_named under t) (λ group key. GroupKey group key)
+group_own under place (Some a) (Some t) =
+    both_own place (group_named a) (key_named under t) (λ group key. GroupKey group key)
 
 tool_own : (under : Wrapping) (place : ℕ) (address : Option (List ℕ)) (text : List ℕ)
-    → HasOwn (ok_or address (fault.Missing IndividualAddress place) >>= (λ a. device_at place a >>= (λ device. key_at under place text >>= (λ key. Ok (ToolKey device key)))))
+    → HasOwn (ok_or address (fault.Missing IndividualAddress place) >>= (λ a. device_at place
+    a >>= (λ device. key_at under place text >>= (λ key. Ok (ToolKey device key)))))
 tool_own under place None text = tt
-tool_own under place (Some a) text = both_own place (device_named a) (key_named under text) (λ device key. ToolKey device key)
+tool_own under place (Some a) text =
+    both_own place (device_named a) (key_named under text) (λ device key. ToolKey device key)
 
 lists_own : (place : ℕ) (group : Option GroupAddr) (senders : Result (List IndAddr) KeyringFault) → HasOwn senders
-    → HasOwn (ok_or group (fault.Address place) >>= (λ g. senders >>= (λ s. Ok (Lists (record { group = g; senders = s })))))
+    → HasOwn (ok_or group (fault.Address place) >>= (λ g. senders >>= (λ s. Ok
+    (Lists (record { group = g; senders = s })))))
 lists_own place None senders own = tt
 lists_own place (Some g) (Ok s) own = tt
 lists_own place (Some g) (Err why) own = own
 
 listing_own : (place : ℕ) (address : Option (List ℕ)) (senders : Result (List IndAddr) KeyringFault) → HasOwn senders
-    → HasOwn (ok_or address (fault.Missing Address place) >>= (λ a. group_at place a >>= (λ g. senders >>= (λ s. Ok (Lists (record { group = g; senders = s }))))))
+    → HasOwn (ok_or address (fault.Missing Address place) >>= (λ a. group_at place
+    a >>= (λ g. senders >>= (λ s. Ok (Lists (record { group = g; senders = s }))))))
 listing_own place None senders own = tt
 listing_own place (Some a) senders own = lists_own place (group_named a) senders own
 
 senders_own : (own : Option IndAddr) (place : ℕ) (text : List ℕ) → HasOwn (senders_at own place text)
-senders_own own place text = then (devices_at place (words_of text)) _ (devices_own place (words_of text)) (λ devices. tt)
+senders_own own place text =
+    then (devices_at place (words_of text)) _ (devices_own place (words_of text)) (λ devices. tt)
 
-says_own : (under : Wrapping) (kind : Kind) (attributes : List (List ℕ × List ℕ)) (place : ℕ) → HasOwn (says under kind attributes place)
+says_own : (under : Wrapping) (kind : Kind) (attributes : List (List ℕ × List ℕ)) (place : ℕ)
+    → HasOwn (says under kind attributes place)
 unfolding says
 says_own under (kind.Interface own) attributes place =
-    said_own (value_named attributes (name_of IndividualAddress)) (address_says place) (λ text. then (device_at place text) _ (or_own _ (fault.Address place) tt) (λ device. tt))
+    said_own (value_named attributes (name_of IndividualAddress)) (address_says place)
+    (λ text. then (device_at place text) _ (or_own _ (fault.Address place) tt) (λ device. tt))
 says_own under (kind.Listing own) attributes place =
-    listing_own place (value_named attributes (name_of Address)) (senders_at own place (unwrap_or (value_named attributes (codes "Senders")) []))
+    listing_own place (value_named attributes (name_of Address))
+    (senders_at own place (unwrap_or (value_named attributes (codes "Senders")) []))
     (senders_own own place (unwrap_or (value_named attributes (codes "Senders")) []))
-says_own under kind.GroupKey attributes place = group_own under place (value_named attributes (name_of Address)) (value_named attributes (name_of Key))
+says_own under kind.GroupKey attributes place =
+    group_own under place (value_named attributes (name_of Address)) (value_named attributes (name_of Key))
 says_own under kind.Device attributes place =
     said_own (value_named attributes (codes "ToolKey")) (tool_says under attributes place)
     (λ text. tool_own under place (value_named attributes (name_of IndividualAddress)) text)
@@ -113,10 +126,12 @@ contents_own : (under : Wrapping) (now : Contents) (elements : List Element) →
 contents_own under now [] = tt
 contents_own under now (element ∷ elements) =
     then (with_element under now element) _
-    (then (says under element.kind element.attributes element.place) _ (says_own under element.kind element.attributes element.place) (taken_own now element.place))
+    (then (says under element.kind element.attributes element.place) _
+    (says_own under element.kind element.attributes element.place) (taken_own now element.place))
     (λ next. contents_own under next elements)
 
-unless_own : {A : Type 0} (found : Option ℕ) (why : ℕ → KeyringFault) (later : Result A KeyringFault) → ((n : ℕ) → IsOwn (why n)) → HasOwn later
+unless_own : {A : Type 0} (found : Option ℕ) (why : ℕ → KeyringFault) (later : Result A KeyringFault)
+    → ((n : ℕ) → IsOwn (why n)) → HasOwn later
     → HasOwn (unless (option_map why found) later)
 unless_own None why later own own_later = own_later
 unless_own (Some n) why later own own_later = own n
@@ -127,7 +142,8 @@ named_own false root = tt
 
 root_own : (tags : List Tag) → HasOwn (root_of tags)
 root_own [] = tt
-root_own (Start name attributes place ∷ tags) = named_own (bytes_eq name (codes "Keyring")) (record { attributes = attributes; place = place })
+root_own (Start name attributes place ∷ tags) =
+    named_own (bytes_eq name (codes "Keyring")) (record { attributes = attributes; place = place })
 root_own (End place ∷ tags) = tt
 root_own (Finish ∷ tags) = tt
 
@@ -135,7 +151,8 @@ abbrev stamps : List ℕ → List ℕ → Stamps
 stamps c s = record { created = c; signature = s }
 
 stamps_in_own : (place : ℕ) (created signature : Option (List ℕ))
-    → HasOwn (ok_or created (fault.Missing Created place) >>= (λ c. ok_or signature (fault.Missing Signature place) >>= (λ s.
+    → HasOwn (ok_or created (fault.Missing Created place) >>= (λ c. ok_or signature
+    (fault.Missing Signature place) >>= (λ s.
     Ok (stamps c s))))
 stamps_in_own place None signature = tt
 stamps_in_own place (Some c) None = tt
@@ -145,9 +162,11 @@ stamps_own : (tags : List Tag) → HasOwn (stamps_of tags)
 stamps_own tags =
     then (root_of tags) _ (root_own tags) (λ root.
     unless_own (first_long tags) fault.LongText (stamps_in root) (λ place. tt)
-    (stamps_in_own root.place (value_named root.attributes (name_of Created)) (value_named root.attributes (name_of Signature))))
+    (stamps_in_own root.place (value_named root.attributes (name_of Created))
+    (value_named root.attributes (name_of Signature))))
 
-judged_own : {A : Type 0} (test : Bool) (why : KeyringFault) (x : A) → IsOwn why → HasOwn (unless (cond test None (Some why)) (Ok x))
+judged_own : {A : Type 0} (test : Bool) (why : KeyringFault) (x : A) → IsOwn why
+    → HasOwn (unless (cond test None (Some why)) (Ok x))
 judged_own true why x own = tt
 judged_own false why x own = own
 
@@ -155,13 +174,16 @@ under_own : (key : List ℕ) (tags : List Tag) → HasOwn (keyring_under key tag
 unfolding keyring_under contents_of
 under_own key tags =
     then (stamps_of tags) _ (stamps_own tags) (λ stamps.
-    then (wrapping_of key tags stamps) _ (judged_own (is_computed (signature_of tags key) (stored_block stamps.signature)) (fault.Signature _ _) _ tt) (λ under.
+    then (wrapping_of key tags stamps) _ (judged_own (is_computed (signature_of tags key)
+    (stored_block stamps.signature)) (fault.Signature _ _) _ tt) (λ under.
     then (contents_of under tags) _ (contents_own under _ _) (λ contents. tt)))
 
 -- no fault that the tags have is the document's
-not_the_documents : (key : List ℕ) (tags : List Tag) (why : KeyringFault) (tag : TagFault) → IsFault why (keyring_under key tags) → why ≢ fault.Tag tag
+not_the_documents : (key : List ℕ) (tags : List Tag) (why : KeyringFault) (tag : TagFault)
+    → IsFault why (keyring_under key tags) → why ≢ fault.Tag tag
 not_the_documents key tags why tag is same =
-    let found : keyring_under key tags ≡ Err (fault.Tag tag) = subst (λ (w : KeyringFault). IsFault w (keyring_under key tags)) same is in
+    let found : keyring_under key tags ≡ Err (fault.Tag tag) =
+    subst (λ (w : KeyringFault). IsFault w (keyring_under key tags)) same is in
     subst (λ (r : Result (List Row) KeyringFault). HasOwn r) found (under_own key tags)
 
 pub none_wrapped : {A : Type 0} (key : List ℕ) (tags : List Tag) (tag : TagFault) (answer : Result A KeyringFault)

@@ -31,11 +31,13 @@ use Rattle.keyring_reader.proofs.OrderLemmas.{ascends}
 
 -- ---- each of a list, and each two of it
 
-each_so : {A : Type 0} (P Q : A → Type 0) (xs : List A) → ((x : A) → P x → Q x) → AllByRecursion P xs → AllByRecursion Q xs
+each_so : {A : Type 0} (P Q : A → Type 0) (xs : List A) → ((x : A) → P x → Q x) → AllByRecursion P xs
+    → AllByRecursion Q xs
 each_so P Q [] so all = tt
 each_so P Q (x ∷ xs) so all = (so x all.0, each_so P Q xs so all.1)
 
-each_append : {A : Type 0} (P : A → Type 0) (xs ys : List A) → AllByRecursion P xs → AllByRecursion P ys → AllByRecursion P (xs ++ ys)
+each_append : {A : Type 0} (P : A → Type 0) (xs ys : List A) → AllByRecursion P xs → AllByRecursion P ys
+    → AllByRecursion P (xs ++ ys)
 each_append P [] ys first second = second
 each_append P (x ∷ xs) ys first second = (first.0, each_append P xs ys first.1 second)
 
@@ -44,15 +46,18 @@ abbrev Once : List Row → Type 0
 Once [] = Unit {0}
 Once (this ∷ rows) = AllByRecursion (AreApart this) rows × Once rows
 
-once_append : (xs ys : List Row) → Once xs → Once ys → AllByRecursion (λ x. AllByRecursion (AreApart x) ys) xs → Once (xs ++ ys)
+once_append : (xs ys : List Row) → Once xs → Once ys → AllByRecursion (λ x. AllByRecursion (AreApart x) ys) xs
+    → Once (xs ++ ys)
 once_append [] ys first second between = second
 once_append (x ∷ xs) ys first second between =
     (each_append (AreApart x) xs ys first.0 between.0, once_append xs ys first.1 second between.1)
 
 -- each of the first rows is apart from each of the second
-across : (P Q : Row → Type 0) (xs ys : List Row) → ((x y : Row) → P x → Q y → AreApart x y) → AllByRecursion P xs → AllByRecursion Q ys
+across : (P Q : Row → Type 0) (xs ys : List Row) → ((x y : Row) → P x → Q y → AreApart x y) → AllByRecursion P xs
+    → AllByRecursion Q ys
     → AllByRecursion (λ x. AllByRecursion (AreApart x) ys) xs
-across P Q xs ys apart first second = each_so P _ xs (λ x such. each_so Q (AreApart x) ys (λ y other. apart x y such other) second) first
+across P Q xs ys apart first second =
+    each_so P _ xs (λ x such. each_so Q (AreApart x) ys (λ y other. apart x y such other) second) first
 
 none_twice : (rows : List Row) → Once rows → NoneTwice rows
 none_twice [] once = λ i j d before within. absurd (omega arith)
@@ -86,14 +91,16 @@ device_apart (row.Tool earlier other) device key none = (eqb-comm earlier.0 devi
 device_apart (row.Role on sender role) device key none = (refl, refl)
 
 -- none of the rows is of the channel, and what is of it is apart from any that is not
-new_apart : (on : Channel) (new : Row) (apart : (this : Row) → is_key_row on this ≡ false → AreApart this new) (rows : List Row)
+new_apart : (on : Channel) (new : Row) (apart : (this : Row) → is_key_row on this ≡ false → AreApart this new)
+    (rows : List Row)
     → has_key rows on ≡ false → AllByRecursion (λ this. AllByRecursion (AreApart this) (new ∷ [])) rows
 new_apart on new apart [] none = tt
 new_apart on new apart (this ∷ rows) none =
     let parts = neither (is_key_row on this) (has_key rows on) none in
     ((apart this parts.0, tt), new_apart on new apart rows parts.1)
 
-one_key : (on : Channel) (new : Row) (apart : (this : Row) → is_key_row on this ≡ false → AreApart this new) (rows : List Row)
+one_key : (on : Channel) (new : Row) (apart : (this : Row) → is_key_row on this ≡ false → AreApart this new)
+    (rows : List Row)
     → IsKey new → has_key rows on ≡ false → AreKeys rows → AreKeys (rows ++ new ∷ [])
 one_key on new apart rows key none are = record {
   keys = each_append IsKey rows (new ∷ []) are.keys (key, tt);
@@ -105,11 +112,13 @@ one_key on new apart rows key none are = record {
 ok_is : {A : Type 0} (x y : A) (found : Result A KeyringFault) → found ≡ Ok x → found ≡ Ok y → x ≡ y
 ok_is x y found is also = cc
 
-not_refused : {A : Type 0} (here : Bool) (why : KeyringFault) (x y : A) → cond here (Err why) (Ok x) ≡ Ok y → (here ≡ false) × (x ≡ y)
+not_refused : {A : Type 0} (here : Bool) (why : KeyringFault) (x y : A) → cond here (Err why) (Ok x) ≡ Ok y
+    → (here ≡ false) × (x ≡ y)
 not_refused true why x y is = absurd cc
 not_refused false why x y is = (refl, ok_is x y (Ok x) refl is)
 
-both_right : {A B : Type 0} (found : Result A KeyringFault) (next : A → Result B KeyringFault) (y : B) → (found >>= next) ≡ Ok y
+both_right : {A B : Type 0} (found : Result A KeyringFault) (next : A → Result B KeyringFault) (y : B)
+    → (found >>= next) ≡ Ok y
     → (x : A) × (found ≡ Ok x) × (next x ≡ Ok y)
 both_right (Ok x) next y is = (x, refl, is)
 both_right (Err why) next y is = absurd cc
@@ -117,7 +126,8 @@ both_right (Err why) next y is = absurd cc
 abbrev HasKeys : Contents → Type 0
 HasKeys contents = AreKeys contents.rows
 
-with_one : (now new : Contents) (place : ℕ) (on : Channel) (this : Row) (apart : (other : Row) → is_key_row on other ≡ false → AreApart other this)
+with_one : (now new : Contents) (place : ℕ) (on : Channel) (this : Row)
+    (apart : (other : Row) → is_key_row on other ≡ false → AreApart other this)
     → IsKey this → HasKeys now → with_key now place on this ≡ Ok new → HasKeys new
 with_one now new place on this apart key are is =
     let grown : Contents = record { rows = now.rows ++ this ∷ []; listings = now.listings } in
@@ -127,18 +137,22 @@ with_one now new place on this apart key are is =
 said_keys : (now new : Contents) (place : ℕ) (said : Said) → HasKeys now → taken now place said ≡ Ok new → HasKeys new
 said_keys now new place Nothing are is = subst HasKeys (ok_is now new (Ok now) refl is) are
 said_keys now new place (GroupKey group key) are is =
-    with_one now new place (channel.Group group) (row.Group group key Auth) (λ other none. group_apart other group key none) refl are is
+    with_one now new place (channel.Group group) (row.Group group key Auth)
+    (λ other none. group_apart other group key none) refl are is
 said_keys now new place (ToolKey device key) are is =
-    with_one now new place (channel.Tool device) (row.Tool device key) (λ other none. device_apart other device key none) refl are is
+    with_one now new place (channel.Tool device) (row.Tool device key)
+    (λ other none. device_apart other device key none) refl are is
 said_keys now new place (Lists listing) are is =
     let grown : Contents = record { rows = now.rows; listings = now.listings ++ listing ∷ [] } in
     subst HasKeys (ok_is grown new (Ok grown) refl is) are
 
-keys_from : (under : Wrapping) (now all : Contents) (elements : List Element) → HasKeys now → contents_from under now elements ≡ Ok all → HasKeys all
+keys_from : (under : Wrapping) (now all : Contents) (elements : List Element) → HasKeys now
+    → contents_from under now elements ≡ Ok all → HasKeys all
 keys_from under now all [] are is = subst HasKeys (ok_is now all (Ok now) refl is) are
 keys_from under now all (element ∷ elements) are is =
     let went = both_right (with_element under now element) (λ next. contents_from under next elements) all is in
-    let told = both_right (says under element.kind element.attributes element.place) (taken now element.place) went.0 went.1 in
+    let told =
+    both_right (says under element.kind element.attributes element.place) (taken now element.place) went.0 went.1 in
     keys_from under went.0 all elements (said_keys now went.0 element.place told.0 are told.2) went.2
 
 keys_of : (under : Wrapping) (tags : List Tag) (all : Contents) → contents_of under tags ≡ Ok all → HasKeys all
@@ -172,15 +186,18 @@ IsOnDevice (row.Role (channel.Tool device) _ _) = Unit {0}
 IsOnDevice _ = ⊥
 
 -- each role that a group gives is on that group
-all_command : (P : ℕ → Type 0) (group : GroupAddr) (senders : List IndAddr) → P group.0 → AllByRecursion (IsOnGroup P) (map (commands group) senders)
+all_command : (P : ℕ → Type 0) (group : GroupAddr) (senders : List IndAddr) → P group.0
+    → AllByRecursion (IsOnGroup P) (map (commands group) senders)
 all_command P group [] such = tt
 all_command P group (sender ∷ senders) such = (such, all_command P group senders such)
 
-all_on : (P : ℕ → Type 0) (group : GroupAddr) (senders : Option (List IndAddr)) → P group.0 → AllByRecursion (IsOnGroup P) (roles_by group senders)
+all_on : (P : ℕ → Type 0) (group : GroupAddr) (senders : Option (List IndAddr)) → P group.0
+    → AllByRecursion (IsOnGroup P) (roles_by group senders)
 all_on P group None such = (such, tt)
 all_on P group (Some senders) such = all_command P group senders such
 
-all_on_groups : (P : ℕ → Type 0) (listings : List Listing) (groups : List GroupAddr) → AllByRecursion (λ group. P group.0) groups
+all_on_groups : (P : ℕ → Type 0) (listings : List Listing) (groups : List GroupAddr)
+    → AllByRecursion (λ group. P group.0) groups
     → AllByRecursion (IsOnGroup P) (flat_map (group_roles listings) groups)
 all_on_groups P listings [] such = tt
 all_on_groups P listings (group ∷ groups) such =
@@ -189,7 +206,8 @@ all_on_groups P listings (group ∷ groups) such =
 
 -- ---- the roles on one group
 
-commands_apart : (group : GroupAddr) (sender : IndAddr) (senders : List IndAddr) → AllByRecursion (λ later. by_device sender later ≡ Less) senders
+commands_apart : (group : GroupAddr) (sender : IndAddr) (senders : List IndAddr)
+    → AllByRecursion (λ later. by_device sender later ≡ Less) senders
     → AllByRecursion (AreApart (commands group sender)) (map (commands group) senders)
 commands_apart group sender [] below = tt
 commands_apart group sender (later ∷ senders) below = (
@@ -200,10 +218,12 @@ commands_apart group sender (later ∷ senders) below = (
   commands_apart group sender senders below.1,
 )
 
-commands_once : (group : GroupAddr) (senders : List IndAddr) → IsStrictlySortedBy by_device senders → Once (map (commands group) senders)
+commands_once : (group : GroupAddr) (senders : List IndAddr) → IsStrictlySortedBy by_device senders
+    → Once (map (commands group) senders)
 unfolding IsStrictlySortedBy
 commands_once group [] sorted = tt
-commands_once group (sender ∷ senders) sorted = (commands_apart group sender senders sorted.0, commands_once group senders sorted.1)
+commands_once group (sender ∷ senders) sorted =
+    (commands_apart group sender senders sorted.0, commands_once group senders sorted.1)
 
 roles_once : (here : Bool) (group : GroupAddr) (senders : List IndAddr)
     → Once (roles_by group (cond here (Some (ascending (λ (device : IndAddr). device.0) senders)) None))
@@ -212,11 +232,15 @@ roles_once false group senders = (tt, tt)
 
 -- ---- the roles on all groups
 
-groups_apart : (number : ℕ) (this other : Row) → IsOnGroup (λ own. own ≡ number) this → IsOnGroup (λ own. nat_cmp number own ≡ Less) other
+groups_apart : (number : ℕ) (this other : Row) → IsOnGroup (λ own. own ≡ number) this
+    → IsOnGroup (λ own. nat_cmp number own ≡ Less) other
     → AreApart this other
 groups_apart number (row.Role (channel.Group a) s _) (row.Role (channel.Group b) t _) is below =
-    let less : nat_cmp a.0 b.0 ≡ Less = ap (λ own. nat_cmp own b.0) is ∙ below in
-    (first_not (a.0 == b.0) (same_sender s t) (not_same a.0 b.0 less), first_not (b.0 == a.0) (same_sender t s) (not_back a.0 b.0 less))
+    let less : nat_cmp a.0 b.0 ≡ Less = ap (λ own. nat_cmp own b.0) is ∙ below in (
+      first_not (a.0 == b.0) (same_sender s t) (not_same a.0 b.0 less),
+      first_not (b.0 == a.0) (same_sender t s)
+          (not_back a.0 b.0 less),
+    )
 groups_apart number (row.Role (channel.Group a) s _) (row.Role (channel.Tool b) t _) is below = absurd below
 groups_apart number (row.Role (channel.Group a) s _) (row.Group _ _ _) is below = absurd below
 groups_apart number (row.Role (channel.Group a) s _) (row.Tool _ _) is below = absurd below
@@ -224,15 +248,19 @@ groups_apart number (row.Role (channel.Tool a) s _) other is below = absurd is
 groups_apart number (row.Group _ _ _) other is below = absurd is
 groups_apart number (row.Tool _ _) other is below = absurd is
 
-groups_once : (listings : List Listing) (groups : List GroupAddr) → IsStrictlySortedBy by_group groups → Once (flat_map (group_roles listings) groups)
+groups_once : (listings : List Listing) (groups : List GroupAddr) → IsStrictlySortedBy by_group groups
+    → Once (flat_map (group_roles listings) groups)
 unfolding IsStrictlySortedBy
 groups_once listings [] sorted = tt
 groups_once listings (group ∷ groups) sorted =
     let own = group_roles listings group in
     let later = flat_map (group_roles listings) groups in
-    once_append own later (roles_once (is_listed listings group) group (senders_to listings group)) (groups_once listings groups sorted.1)
-    (across (IsOnGroup (λ number. number ≡ group.0)) (IsOnGroup (λ number. nat_cmp group.0 number ≡ Less)) own later (groups_apart group.0)
-    (all_on (λ number. number ≡ group.0) group _ refl) (all_on_groups (λ number. nat_cmp group.0 number ≡ Less) listings groups sorted.0))
+    once_append own later (roles_once (is_listed listings group) group (senders_to listings group))
+    (groups_once listings groups sorted.1)
+    (across (IsOnGroup (λ number. number ≡ group.0)) (IsOnGroup (λ number. nat_cmp group.0 number ≡ Less)) own later
+    (groups_apart group.0)
+    (all_on (λ number. number ≡ group.0) group _ refl) (all_on_groups (λ number. nat_cmp group.0 number ≡ Less) listings
+    groups sorted.0))
 
 -- ---- the roles on devices
 
@@ -240,11 +268,16 @@ all_on_devices : (devices : List IndAddr) → AllByRecursion IsOnDevice (map dev
 all_on_devices [] = tt
 all_on_devices (device ∷ devices) = (tt, all_on_devices devices)
 
-devices_apart : (device : IndAddr) (devices : List IndAddr) → AllByRecursion (λ later. by_device device later ≡ Less) devices
+devices_apart : (device : IndAddr) (devices : List IndAddr)
+    → AllByRecursion (λ later. by_device device later ≡ Less) devices
     → AllByRecursion (AreApart (device_role device)) (map device_role devices)
 devices_apart device [] below = tt
 devices_apart device (later ∷ devices) below = (
-  (first_not (device.0 == later.0) true (not_same device.0 later.0 below.0), first_not (later.0 == device.0) true (not_back device.0 later.0 below.0)),
+  (
+    first_not (device.0 == later.0) true (not_same device.0 later.0 below.0),
+    first_not (later.0 == device.0) true
+        (not_back device.0 later.0 below.0),
+  ),
   devices_apart device devices below.1,
 )
 
@@ -293,7 +326,8 @@ any_group [] = tt
 any_group (group ∷ groups) = (tt, any_group groups)
 
 -- of key rows, roles on groups, and roles on devices
-parts_once : (keys groups devices : List Row) → AreKeys keys → Once groups → Once devices → AllByRecursion (IsOnGroup Any) groups
+parts_once : (keys groups devices : List Row) → AreKeys keys → Once groups → Once devices
+    → AllByRecursion (IsOnGroup Any) groups
     → AllByRecursion IsOnDevice devices → Once (keys ++ groups ++ devices)
 parts_once keys groups devices are groups_are devices_are on_groups on_devices =
     let group_roles_are = each_so (IsOnGroup Any) IsRole groups group_is_role on_groups in
@@ -305,7 +339,8 @@ parts_once keys groups devices are groups_are devices_are on_groups on_devices =
     (across IsKey IsRole keys devices key_role are.keys device_roles_are)
     (across (IsOnGroup Any) IsOnDevice groups devices group_device on_groups on_devices))
 
-pub rows_once : (under : Wrapping) (tags : List Tag) (contents : Contents) (rows : List Row) → contents_of under tags ≡ Ok contents → rows ≡ rows_of contents
+pub rows_once : (under : Wrapping) (tags : List Tag) (contents : Contents) (rows : List Row)
+    → contents_of under tags ≡ Ok contents → rows ≡ rows_of contents
     → NoneTwice rows
 unfolding rows_of
 rows_once under tags contents rows found is =
@@ -313,7 +348,8 @@ rows_once under tags contents rows found is =
     let devices = devices_of contents.rows in
     subst NoneTwice (sym is)
     (none_twice (rows_of contents)
-    (parts_once contents.rows (flat_map (group_roles contents.listings) groups) (map device_role devices) (keys_of under tags contents found)
+    (parts_once contents.rows (flat_map (group_roles contents.listings) groups) (map device_role devices)
+    (keys_of under tags contents found)
     (groups_once contents.listings groups (ascends (λ (group : GroupAddr). group.0) _))
     (devices_once devices (ascends (λ (device : IndAddr). device.0) _))
     (all_on_groups Any contents.listings groups (any_group groups)) (all_on_devices devices)))

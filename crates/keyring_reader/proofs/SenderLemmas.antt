@@ -30,7 +30,8 @@ after_one devices device (Err why) = refl
 pub record HasRead (place : ℕ) (pieces : List (List ℕ)) (n : ℕ) (old now : List IndAddr) : Type 0 where
   pub devices : List IndAddr
   pub are : now ≡ old ++ devices
-  pub left : devices_at place (filter is_word pieces) ≡ after devices (devices_at place (filter is_word (drop n pieces)))
+  pub left : devices_at place (filter is_word pieces) ≡ after devices
+      (devices_at place (filter is_word (drop n pieces)))
 
 pub none_read : (place : ℕ) (pieces : List (List ℕ)) (old : List IndAddr) → HasRead place pieces 0 old old
 none_read place pieces old = record {
@@ -39,60 +40,78 @@ none_read place pieces old = record {
   left = after_none (devices_at place (filter is_word pieces));
 }
 
-next_piece : (pieces : List (List ℕ)) (n : ℕ) (piece : List ℕ) → (n < length pieces) × (piece ≡ get_or pieces n piece) → drop n pieces ≡ piece ∷ drop (n + 1) pieces
+next_piece : (pieces : List (List ℕ)) (n : ℕ) (piece : List ℕ) → (n < length pieces) × (piece ≡ get_or pieces n piece)
+    → drop n pieces ≡ piece ∷ drop (n + 1) pieces
 next_piece pieces n piece at =
     drop_more pieces n piece at.0 ∙ ap (λ (first : List ℕ). first ∷ drop (n + 1) pieces) (sym at.1)
 
-pub skipped : (place : ℕ) (pieces : List (List ℕ)) (n m : ℕ) (old now : List IndAddr) (piece : List ℕ) → HasRead place pieces n old now
-    → (n < length pieces) × (piece ≡ get_or pieces n piece) → is_word piece ≡ false → m ≡ n + 1 → HasRead place pieces m old now
+pub skipped : (place : ℕ) (pieces : List (List ℕ)) (n m : ℕ) (old now : List IndAddr) (piece : List ℕ)
+    → HasRead place pieces n old now
+    → (n < length pieces) × (piece ≡ get_or pieces n piece) → is_word piece ≡ false → m ≡ n + 1
+    → HasRead place pieces m old now
 skipped place pieces n m old now piece read at none next = record {
   devices = read.devices;
   are = read.are;
   left =
       read.left
-      ∙ ap (λ (left : List (List ℕ)). after read.devices (devices_at place (filter is_word left))) (next_piece pieces n piece at)
-      ∙ ap (λ (b : Bool). after read.devices (devices_at place (cond b (piece ∷ filter is_word (drop (n + 1) pieces)) (filter is_word (drop (n + 1) pieces))))) none
+      ∙ ap (λ (left : List (List ℕ)). after read.devices (devices_at place (filter is_word left)))
+      (next_piece pieces n piece at)
+      ∙ ap (λ (b : Bool). after read.devices (devices_at place
+      (cond b (piece ∷ filter is_word (drop (n + 1) pieces)) (filter is_word (drop (n + 1) pieces))))) none
       ∙ ap (λ (k : ℕ). after read.devices (devices_at place (filter is_word (drop k pieces)))) (sym next);
 }
 
 -- what is left, where the next piece is a word
-at_word : (place : ℕ) (pieces : List (List ℕ)) (n : ℕ) (old now : List IndAddr) (piece : List ℕ) (read : HasRead place pieces n old now)
+at_word : (place : ℕ) (pieces : List (List ℕ)) (n : ℕ) (old now : List IndAddr) (piece : List ℕ)
+    (read : HasRead place pieces n old now)
     → (n < length pieces) × (piece ≡ get_or pieces n piece) → is_word piece ≡ true
-    → devices_at place (filter is_word pieces) ≡ after read.devices (devices_at place (piece ∷ filter is_word (drop (n + 1) pieces)))
+    → devices_at place (filter is_word pieces) ≡ after read.devices
+    (devices_at place (piece ∷ filter is_word (drop (n + 1) pieces)))
 at_word place pieces n old now piece read at word =
     read.left
-    ∙ ap (λ (left : List (List ℕ)). after read.devices (devices_at place (filter is_word left))) (next_piece pieces n piece at)
-    ∙ ap (λ (b : Bool). after read.devices (devices_at place (cond b (piece ∷ filter is_word (drop (n + 1) pieces)) (filter is_word (drop (n + 1) pieces))))) word
+    ∙ ap (λ (left : List (List ℕ)). after read.devices (devices_at place (filter is_word left)))
+    (next_piece pieces n piece at)
+    ∙ ap (λ (b : Bool). after read.devices (devices_at place
+    (cond b (piece ∷ filter is_word (drop (n + 1) pieces)) (filter is_word (drop (n + 1) pieces))))) word
 
-pub one_read : (place : ℕ) (pieces : List (List ℕ)) (n m : ℕ) (old now next : List IndAddr) (piece : List ℕ) (device : IndAddr) → HasRead place pieces n old now
-    → (n < length pieces) × (piece ≡ get_or pieces n piece) → is_word piece ≡ true → device_at place piece ≡ Ok device → next ≡ now ++ device ∷ []
+pub one_read : (place : ℕ) (pieces : List (List ℕ)) (n m : ℕ) (old now next : List IndAddr) (piece : List ℕ)
+    (device : IndAddr) → HasRead place pieces n old now
+    → (n < length pieces) × (piece ≡ get_or pieces n piece) → is_word piece ≡ true → device_at place piece ≡ Ok device
+    → next ≡ now ++ device ∷ []
     → m ≡ n + 1 → HasRead place pieces m old next
 one_read place pieces n m old now next piece device read at word is pushed more =
     let rest : Result (List IndAddr) KeyringFault = devices_at place (filter is_word (drop (n + 1) pieces)) in
     record {
       devices = read.devices ++ device ∷ [];
-      are = pushed ∙ ap (λ (front : List IndAddr). front ++ device ∷ []) read.are ∙ append_assoc old read.devices (device ∷ []);
+      are = pushed ∙ ap (λ (front : List IndAddr). front ++ device ∷ []) read.are
+          ∙ append_assoc old read.devices (device ∷ []);
       left =
           at_word place pieces n old now piece read at word
-          ∙ ap (λ (first : Result IndAddr KeyringFault). after read.devices (first >>= (λ d. rest >>= (λ more. Ok (d ∷ more))))) is
+          ∙ ap (λ (first : Result IndAddr KeyringFault). after read.devices
+          (first >>= (λ d. rest >>= (λ more. Ok (d ∷ more))))) is
           ∙ after_one read.devices device rest
-          ∙ ap (λ (k : ℕ). after (read.devices ++ device ∷ []) (devices_at place (filter is_word (drop k pieces)))) (sym more);
+          ∙ ap (λ (k : ℕ). after (read.devices ++ device ∷ []) (devices_at place (filter is_word (drop k pieces))))
+          (sym more);
     }
 
-pub one_refused : (place : ℕ) (pieces : List (List ℕ)) (n : ℕ) (old now : List IndAddr) (piece : List ℕ) (why : KeyringFault) → HasRead place pieces n old now
+pub one_refused : (place : ℕ) (pieces : List (List ℕ)) (n : ℕ) (old now : List IndAddr) (piece : List ℕ)
+    (why : KeyringFault) → HasRead place pieces n old now
     → (n < length pieces) × (piece ≡ get_or pieces n piece) → is_word piece ≡ true → device_at place piece ≡ Err why
     → devices_at place (filter is_word pieces) ≡ Err why
 one_refused place pieces n old now piece why read at word is =
     let rest : Result (List IndAddr) KeyringFault = devices_at place (filter is_word (drop (n + 1) pieces)) in
     at_word place pieces n old now piece read at word
-    ∙ ap (λ (first : Result IndAddr KeyringFault). after read.devices (first >>= (λ d. rest >>= (λ more. Ok (d ∷ more))))) is
+    ∙ ap (λ (first : Result IndAddr KeyringFault). after read.devices
+    (first >>= (λ d. rest >>= (λ more. Ok (d ∷ more))))) is
 
-pub all_read : (place : ℕ) (pieces : List (List ℕ)) (n : ℕ) (old now : List IndAddr) → HasRead place pieces n old now → n ≡ length pieces
+pub all_read : (place : ℕ) (pieces : List (List ℕ)) (n : ℕ) (old now : List IndAddr) → HasRead place pieces n old now
+    → n ≡ length pieces
     → (devices : List IndAddr) × (devices_at place (filter is_word pieces) ≡ Ok devices) × (now ≡ old ++ devices)
 all_read place pieces n old now read all = (
   read.devices,
   read.left
-      ∙ ap (λ (left : List (List ℕ)). after read.devices (devices_at place (filter is_word left))) (drop_all n pieces (omega (arith, all)))
+      ∙ ap (λ (left : List (List ℕ)). after read.devices (devices_at place (filter is_word left)))
+      (drop_all n pieces (omega (arith, all)))
       ∙ ap (λ (devices : List IndAddr). Ok devices) (append-nil read.devices),
   read.are,
 )
@@ -109,7 +128,9 @@ has_none [] empty is none = refl
 has_none (octet ∷ text) empty is none = absurd (not_empty (length text) empty is none)
 
 -- the pieces that a loop over them yields
-pub pieces_yielded : (s t : Split ℕ) (text : List ℕ) → s ≡ t → split_text t ≡ text → split_has_more t ≡ true → split_pattern t ≡ 32
+pub pieces_yielded : (s t : Split ℕ) (text : List ℕ) → s ≡ t → split_text t ≡ text → split_has_more t ≡ true
+    → split_pattern t ≡ 32
     → YieldsList (split_steps FindsChar (λ a b. b ≡ a)) (λ x. x.now) s (slice_split (λ octet. octet == 32) text)
 pieces_yielded s t text is text_is more pattern =
-    YieldsList-from_str_split {s = s} 32 text (lit< tt) (ap split_text is ∙ text_is) (ap split_has_more is ∙ more) (ap split_pattern is ∙ pattern)
+    YieldsList-from_str_split {s = s} 32 text (lit< tt) (ap split_text is ∙ text_is) (ap split_has_more is ∙ more)
+    (ap split_pattern is ∙ pattern)

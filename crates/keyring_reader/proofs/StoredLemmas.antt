@@ -31,17 +31,20 @@ filled (Some e) n is = cc
 abbrev answer_of : Option DecodeError → Option DecodeError → Bool → ℕ → Result ℕ DecodeSliceError
 answer_of lone rest small n = or_error lone (cond small (Err OutputSliceTooSmall) (or_error rest (bytes_fit n 16)))
 
-answered : (lone rest : Option DecodeError) (small : Bool) (n : ℕ) → answer_of lone rest small n ≡ Ok 16 → (or_else lone rest ≡ None) × (n ≡ 16)
+answered : (lone rest : Option DecodeError) (small : Bool) (n : ℕ) → answer_of lone rest small n ≡ Ok 16
+    → (or_else lone rest ≡ None) × (n ≡ 16)
 answered (Some e) rest small n is = cc
 answered None rest true n is = cc
 answered None rest false n is = filled rest n is
 
-answers : (lone rest : Option DecodeError) (small : Bool) (n : ℕ) → or_else lone rest ≡ None → small ≡ false → n ≡ 16 → answer_of lone rest small n ≡ Ok 16
+answers : (lone rest : Option DecodeError) (small : Bool) (n : ℕ) → or_else lone rest ≡ None → small ≡ false → n ≡ 16
+    → answer_of lone rest small n ≡ Ok 16
 answers (Some e) rest small n none room length_is = cc
 answers None (Some e) small n none room length_is = cc
 answers None None small n none room length_is = rw (room, length_is) refl
 
-outcome_ok : (error : Option DecodeError) (octets b : List ℕ) → decode_outcome error octets ≡ Ok b → (error ≡ None) × (octets ≡ b)
+outcome_ok : (error : Option DecodeError) (octets b : List ℕ) → decode_outcome error octets ≡ Ok b → (error ≡ None)
+    × (octets ≡ b)
 outcome_ok None octets b is = (refl, cc)
 outcome_ok (Some e) octets b is = cc
 
@@ -54,7 +57,8 @@ decodes s is =
 length-base64_of : (b : List ℕ) → length b ≡ 16 → length (base64_of b) ≡ 24
 length-base64_of b is =
     length-append (encode_symbols (engine_symbols standard) b) (replicate {A = ℕ} (padding_len (length b)) 61)
-    ∙ ap (λ (n : ℕ). n + length {A = ℕ} (replicate (padding_len (length b)) 61)) (length-encode_symbols (engine_symbols standard) b)
+    ∙ ap (λ (n : ℕ). n + length {A = ℕ} (replicate (padding_len (length b)) 61))
+    (length-encode_symbols (engine_symbols standard) b)
     ∙ ap (λ (n : ℕ). unpadded_len n + length {A = ℕ} (replicate (padding_len n) 61)) is
 
 encoding_decodes : (b : List ℕ) → IsBlock b → decode_of standard (base64_of b) ≡ Ok b
@@ -77,48 +81,63 @@ is_stored s b octets is decoded =
     ((bytes_eq-Decides (base64_of b) s).1 (sym (decode_of_strict standard s b (refl, refl) octets decoded)))
     (λ other is_other passes.
     same_ok other b (decode_of standard s)
-    (ap (decode_of standard) (sym ((bytes_eq-Decides (base64_of other) s).0 passes)) ∙ encoding_decodes other is_other) decoded)
+    (ap (decode_of standard) (sym ((bytes_eq-Decides (base64_of other) s).0 passes)) ∙ encoding_decodes other is_other)
+    decoded)
 
-pub stored_found : (s out old : List ℕ) → decode_slice_of standard s 16 ≡ Ok 16 → AreOctets s → AreOctets (decoded_bytes_of standard s)
-    → out ≡ decoded_bytes_of standard s ++ drop (length (decoded_bytes_of standard s)) old → length old ≡ 16 → stored_block s ≡ Some out
+pub stored_found : (s out old : List ℕ) → decode_slice_of standard s 16 ≡ Ok 16 → AreOctets s
+    → AreOctets (decoded_bytes_of standard s)
+    → out ≡ decoded_bytes_of standard s ++ drop (length (decoded_bytes_of standard s)) old → length old ≡ 16
+    → stored_block s ≡ Some out
 stored_found s out old is octets block_octets written long =
     let parts = decodes s is in
     let d : List ℕ = decoded_bytes_of standard s in
-    let same : out ≡ d = written ∙ ap (λ (rest : List ℕ). d ++ rest) (drop_all (length d) old (omega (arith, parts.1, long))) ∙ append-nil d in
-    is_stored s d octets (record { length = parts.1; octets = block_octets }) parts.0 ∙ ap (λ (x : List ℕ). Some x) (sym same)
+    let same : out ≡ d = written ∙ ap (λ (rest : List ℕ). d ++ rest)
+    (drop_all (length d) old (omega (arith, parts.1, long))) ∙ append-nil d in
+    is_stored s d octets (record { length = parts.1; octets = block_octets }) parts.0
+    ∙ ap (λ (x : List ℕ). Some x) (sym same)
 
-pub stored_not : (s : List ℕ) (answer : Result ℕ DecodeSliceError) → answer ≡ decode_slice_of standard s 16 → answer ≢ Ok 16 → stored_block s ≡ None
+pub stored_not : (s : List ℕ) (answer : Result ℕ DecodeSliceError) → answer ≡ decode_slice_of standard s 16
+    → answer ≢ Ok 16 → stored_block s ≡ None
 unfolding stored_block
-stored_not s answer is other = no_block (λ block. bytes_eq (base64_of block) s) (λ b is_block. elim (cases_Bool (bytes_eq (base64_of b) s)) [
-  | inl passes ↦
-      absurd (other (is ∙ ap (λ (text : List ℕ). decode_slice_of standard text 16) (sym ((bytes_eq-Decides (base64_of b) s).0 passes)) ∙ encoding_fills b is_block))
-  | inr fails ↦ fails
-])
+stored_not s answer is other =
+    no_block (λ block. bytes_eq (base64_of block) s) (λ b is_block. elim (cases_Bool (bytes_eq (base64_of b) s)) [
+      | inl passes ↦
+          absurd (other (is ∙ ap (λ (text : List ℕ). decode_slice_of standard text 16)
+          (sym ((bytes_eq-Decides (base64_of b) s).0 passes)) ∙ encoding_fills b is_block))
+      | inr fails ↦ fails
+    ])
 
 -- the one block whose CBC is this
 pub unwrapped_is : (key vector plain wrapped : List ℕ) → IsBlock plain → cbc_of key vector plain ≡ wrapped
-    → ((other : List ℕ) → length other ≡ length wrapped → AreOctets other → cbc_of key vector other ≡ wrapped → plain ≡ other)
+    → ((other : List ℕ) → length other ≡ length wrapped → AreOctets other → cbc_of key vector other ≡ wrapped
+    → plain ≡ other)
     → length wrapped ≡ 16 → unwrapped key vector wrapped ≡ Some plain
 unfolding unwrapped
 unwrapped_is key vector plain wrapped is encrypts only length_is =
     found_block (λ block. bytes_eq (cbc_of key vector block) wrapped) plain is
     ((bytes_eq-Decides (cbc_of key vector plain) wrapped).1 encrypts)
     (λ other is_other passes.
-    sym (only other (is_other.length ∙ sym length_is) is_other.octets ((bytes_eq-Decides (cbc_of key vector other) wrapped).0 passes)))
+    sym (only other (is_other.length ∙ sym length_is) is_other.octets
+    ((bytes_eq-Decides (cbc_of key vector other) wrapped).0 passes)))
 
 pub stored_once : (b : List ℕ) → IsBlock b → stored_block (base64_of b) ≡ Some b
 unfolding stored_block
 stored_once b is =
-    found_block (λ block. bytes_eq (base64_of block) (base64_of b)) b is ((bytes_eq-Decides (base64_of b) (base64_of b)).1 refl)
+    found_block (λ block. bytes_eq (base64_of block) (base64_of b)) b is
+    ((bytes_eq-Decides (base64_of b) (base64_of b)).1 refl)
     (λ other is_other passes.
     same_ok other b (decode_of standard (base64_of b))
-    (ap (decode_of standard) (sym ((bytes_eq-Decides (base64_of other) (base64_of b)).0 passes)) ∙ encoding_decodes other is_other) (encoding_decodes b is))
+    (ap (decode_of standard) (sym ((bytes_eq-Decides (base64_of other) (base64_of b)).0 passes))
+    ∙ encoding_decodes other is_other) (encoding_decodes b is))
 
 pub stored_only : (text b : List ℕ) → stored_block text ≡ Some b → base64_of b ≡ text
 unfolding stored_block
-stored_only text b is = (bytes_eq-Decides (base64_of b) text).0 (found_passes (λ block. bytes_eq (base64_of block) text) b is)
+stored_only text b is =
+    (bytes_eq-Decides (base64_of b) text).0 (found_passes (λ block. bytes_eq (base64_of block) text) b is)
 
-pub wrapped_only : (key vector wrapped plain : List ℕ) → unwrapped key vector wrapped ≡ Some plain → cbc_of key vector plain ≡ wrapped
+pub wrapped_only : (key vector wrapped plain : List ℕ) → unwrapped key vector wrapped ≡ Some plain
+    → cbc_of key vector plain ≡ wrapped
 unfolding unwrapped
 wrapped_only key vector wrapped plain is =
-    (bytes_eq-Decides (cbc_of key vector plain) wrapped).0 (found_passes (λ block. bytes_eq (cbc_of key vector block) wrapped) plain is)
+    (bytes_eq-Decides (cbc_of key vector plain) wrapped).0 (found_passes
+    (λ block. bytes_eq (cbc_of key vector block) wrapped) plain is)

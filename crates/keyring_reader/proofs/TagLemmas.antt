@@ -12,23 +12,27 @@ use Rattle.keyring_reader.specs.declared.fault.KeyringFault.TheVariants as fault
 use Rattle.keyring_reader.specs.Keyring.{unless, tag_fault, tags_of, IsFault}
 
 -- the fault that ends the document
-ended : (octets : List ℕ) (tags : List Tag) (left : Left) (why : TagFault) → outcome_of octets ≡ after_tags tags left → left ≡ only (Some why)
+ended : (octets : List ℕ) (tags : List Tag) (left : Left) (why : TagFault) → outcome_of octets ≡ after_tags tags left
+    → left ≡ only (Some why)
     → tags_of octets ≡ Err (fault.Tag why)
 unfolding tags_of
 ended octets tags left why so_far is =
     ap (λ (found : Option TagFault). unless (option_map fault.Tag found) (Ok (events_of octets)))
     (ap (λ (whole : Left). whole.fault) so_far ∙ ap (λ (rest : Left). rest.fault) is)
 
-pub refused : (octets : List ℕ) (tags : List Tag) (left new : Left) (why : TagFault) → outcome_of octets ≡ after_tags tags left → Gives left new (Err why)
+pub refused : (octets : List ℕ) (tags : List Tag) (left new : Left) (why : TagFault)
+    → outcome_of octets ≡ after_tags tags left → Gives left new (Err why)
     → IsFault (tag_fault why) (tags_of octets)
 refused octets tags left new tag.NoMemory so_far gives = tt
 refused octets tags left new (tag.Bad place) so_far gives = ended octets tags left (tag.Bad place) so_far gives.0
 refused octets tags left new (tag.Utf8 place) so_far gives = ended octets tags left (tag.Utf8 place) so_far gives.0
 refused octets tags left new (tag.Deep place) so_far gives = ended octets tags left (tag.Deep place) so_far gives.0
 
-pub finished : (octets : List ℕ) (tags : List Tag) (left new : Left) → outcome_of octets ≡ after_tags tags left → Gives left new (Ok given.Finish)
+pub finished : (octets : List ℕ) (tags : List Tag) (left new : Left) → outcome_of octets ≡ after_tags tags left
+    → Gives left new (Ok given.Finish)
     → tags_of octets ≡ Ok tags
 unfolding tags_of
 finished octets tags left new so_far gives =
-    ap (λ (whole : Left). unless (option_map fault.Tag whole.fault) (Ok whole.tags)) (so_far ∙ ap (after_tags tags) gives.0)
+    ap (λ (whole : Left). unless (option_map fault.Tag whole.fault) (Ok whole.tags))
+    (so_far ∙ ap (after_tags tags) gives.0)
     ∙ ap (λ (all : List Tag). Ok all) (append-nil tags)

@@ -17,7 +17,8 @@ where_true test block = if test then Some block else None
 -- the first that passes, of the blocks whose number is below this
 unfoldable pub first_below : (List ℕ → Bool) → ℕ → Option (List ℕ)
 first_below test zero = None
-first_below test (suc number) = option_or (first_below test number) (where_true (test (block_of number)) (block_of number))
+first_below test (suc number) =
+    option_or (first_below test number) (where_true (test (block_of number)) (block_of number))
 
 -- the first block that passes, of all blocks
 unfoldable pub first_block : (List ℕ → Bool) → Option (List ℕ)

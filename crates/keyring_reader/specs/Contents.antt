@@ -104,7 +104,8 @@ interface_says attributes place = said_of (value_named attributes (name_of Indiv
 
 -- a device may have a tool key
 abbrev pub device_says : Wrapping → List (List ℕ × List ℕ) → ℕ → Result Said KeyringFault
-device_says under attributes place = said_of (value_named attributes (codes "ToolKey")) (tool_says under attributes place)
+device_says under attributes place =
+    said_of (value_named attributes (codes "ToolKey")) (tool_says under attributes place)
 
 -- what an element of this kind says, with these attributes at this place
 unfoldable pub says : Wrapping → Kind → List (List ℕ × List ℕ) → ℕ → Result Said KeyringFault

@@ -30,6 +30,8 @@ pub record Holds (gathered : Gathered) (contents : Contents) : Type 0 where
   pub rows : gathered.rows.items ≡ contents.rows
   pub groups : gathered.groups.keys ≡ groups_of contents.rows
   pub devices : gathered.devices.keys ≡ devices_of contents.rows
-  pub group_known : (group : GroupAddr) → contains by_group gathered.groups group ≡ has_key contents.rows (channel.Group group)
-  pub device_known : (device : IndAddr) → contains by_device gathered.devices device ≡ has_key contents.rows (channel.Tool device)
+  pub group_known : (group : GroupAddr) → contains by_group gathered.groups group
+      ≡ has_key contents.rows (channel.Group group)
+  pub device_known : (device : IndAddr) → contains by_device gathered.devices device
+      ≡ has_key contents.rows (channel.Tool device)
   pub listed : AreListed gathered.senders contents.listings

@@ -56,7 +56,8 @@ kind_at elements =
     else if stands_at elements (codes "Keyring" ∷ codes "Interface" ∷ []) then kind.Interface (address_of elements)
     else if stands_at elements (codes "Keyring" ∷ codes "GroupAddresses" ∷ []) then kind.GroupAddresses
     else if stands_at elements (codes "Keyring" ∷ codes "Devices" ∷ []) then kind.Devices
-    else if stands_at elements (codes "Keyring" ∷ codes "Interface" ∷ codes "Group" ∷ []) then kind.Listing (outer_address elements)
+    else if stands_at elements (codes "Keyring" ∷ codes "Interface" ∷ codes "Group" ∷ [])
+    then kind.Listing (outer_address elements)
     else if stands_at elements (codes "Keyring" ∷ codes "GroupAddresses" ∷ codes "Group" ∷ []) then kind.GroupKey
     else if stands_at elements (codes "Keyring" ∷ codes "Devices" ∷ codes "Device" ∷ []) then kind.Device
     else kind.Other

@@ -65,4 +65,5 @@ device_role device = row.Role (channel.Tool device) None Manage
 -- the key rows, then the role rows: of the groups with a key, ascending, and then of the devices, ascending
 unfoldable pub rows_of : Contents → List Row
 rows_of contents =
-    contents.rows ++ flat_map (group_roles contents.listings) (groups_of contents.rows) ++ map device_role (devices_of contents.rows)
+    contents.rows ++ flat_map (group_roles contents.listings) (groups_of contents.rows)
+    ++ map device_role (devices_of contents.rows)

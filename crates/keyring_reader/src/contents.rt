@@ -23,9 +23,17 @@ fn take_element(
     place: usize,
 ) -> Result<(), KeyringFault>
     ensures taken { OnOk result ((c : Contents) → Holds gathered.old c
-        → (n : Contents) × (with_element under.now c (record { kind = kind; attributes = attributes.now; place = place }) ≡ Ok n) × Holds gathered.new n) }
+        → (n : Contents) × (with_element under.now c (record {
+          kind = kind;
+          attributes = attributes.now;
+          place = place;
+        }) ≡ Ok n) × Holds gathered.new n) }
     ensures fault { IfErr result (λ fault. (c : Contents) → Holds gathered.old c
-        → IsFault fault (with_element under.now c (record { kind = kind; attributes = attributes.now; place = place }))) }
+        → IsFault fault (with_element under.now c (record {
+          kind = kind;
+          attributes = attributes.now;
+          place = place;
+        }))) }
 {
     let said = says(alloc, under, kind, attributes, place)?;
     gathered.take(alloc, place, said)
@@ -37,7 +45,8 @@ pub(crate) fn read_contents(
     under: &Wrapping,
     tags: &[Tag],
 ) -> Result<Gathered, KeyringFault>
-    ensures contents { IfOk result (λ gathered. (c : Contents) × (contents_of under.now tags.now ≡ Ok c) × Holds gathered c) }
+    ensures contents { IfOk result (λ gathered. (c : Contents) × (contents_of under.now tags.now ≡ Ok c)
+        × Holds gathered c) }
     ensures fault { IfErr result (λ fault. IsFault fault (contents_of under.now tags.now)) }
 {
     let mut gathered = Gathered::new(alloc);

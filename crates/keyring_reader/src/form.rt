@@ -16,7 +16,8 @@ pub(crate) fn required(
     attribute: Attribute,
     place: usize,
 ) -> Result<&str, KeyringFault>
-    ensures { MatchResult result (λ value. required attributes.now attribute place ≡ Ok value.now) (λ fault. required attributes.now attribute place ≡ Err fault) }
+    ensures { MatchResult result (λ value. required attributes.now attribute place ≡ Ok value.now)
+        (λ fault. required attributes.now attribute place ≡ Err fault) }
 {
     match attributes.get(attribute.name()) {
         Some(value) => Ok(value),
@@ -83,7 +84,8 @@ fn first_long(tags: &[Tag]) -> Option<usize>
 }
 
 fn root_of(tags: &[Tag]) -> Result<(&Attributes, usize), KeyringFault>
-    ensures { MatchResult result (λ root. root_of tags.now ≡ Ok (record { attributes = root.0.now; place = root.1 })) (λ fault. root_of tags.now ≡ Err fault) }
+    ensures { MatchResult result (λ root. root_of tags.now ≡ Ok (record { attributes = root.0.now; place = root.1 }))
+        (λ fault. root_of tags.now ≡ Err fault) }
 {
     match tags.first() {
         Some(
@@ -99,7 +101,8 @@ fn root_of(tags: &[Tag]) -> Result<(&Attributes, usize), KeyringFault>
 
 fn stamps_in(attributes: &Attributes, place: usize) -> Result<(&str, &str), KeyringFault>
     ensures { MatchResult result
-        (λ stamps. stamps_in (record { attributes = attributes.now; place = place }) ≡ Ok (record { created = stamps.0.now; signature = stamps.1.now }))
+        (λ stamps. stamps_in (record { attributes = attributes.now; place = place })
+        ≡ Ok (record { created = stamps.0.now; signature = stamps.1.now }))
         (λ fault. stamps_in (record { attributes = attributes.now; place = place }) ≡ Err fault) }
 {
     let created = required(attributes, Attribute::Created, place)?;

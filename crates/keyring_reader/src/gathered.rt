@@ -16,8 +16,8 @@ use knx_base::{GroupAddr, IndAddr, NoMemory};
 use std::alloc::Global;
 use std::collections::{BTreeMap, BTreeSet};
 
-/// The key rows in the order of the document, the groups and the devices that they are of, and the senders of each group that
-/// an interface lists.
+/// The key rows in the order of the document, the groups and the devices that they are of, and the senders of each
+/// group that an interface lists.
 #[derive(Drop)]
 pub(crate) struct Gathered {
     pub(crate) rows: Vec<Row>,
@@ -46,8 +46,10 @@ impl Gathered {
         key: [u8; 16],
     ) -> Result<(), KeyringFault>
         ensures added { OnOk result ((c : Contents) → Holds self.old c
-            → (n : Contents) × (with_key c place (Channel.Group group) (Row.Group group key Level.Auth) ≡ Ok n) × Holds self.new n) }
-        ensures fault { IfErr result (λ fault. (c : Contents) → Holds self.old c → IsFault fault (with_key c place (Channel.Group group) (Row.Group group key Level.Auth))) }
+            → (n : Contents) × (with_key c place (Channel.Group group) (Row.Group group key Level.Auth) ≡ Ok n)
+            × Holds self.new n) }
+        ensures fault { IfErr result (λ fault. (c : Contents) → Holds self.old c
+            → IsFault fault (with_key c place (Channel.Group group) (Row.Group group key Level.Auth))) }
     {
         if !self.groups.insert(group)? {
             return Err(KeyringFault::Twice(place));
@@ -68,8 +70,10 @@ impl Gathered {
         key: [u8; 16],
     ) -> Result<(), KeyringFault>
         ensures added { OnOk result ((c : Contents) → Holds self.old c
-            → (n : Contents) × (with_key c place (Channel.Tool device) (Row.Tool device key) ≡ Ok n) × Holds self.new n) }
-        ensures fault { IfErr result (λ fault. (c : Contents) → Holds self.old c → IsFault fault (with_key c place (Channel.Tool device) (Row.Tool device key))) }
+            → (n : Contents) × (with_key c place (Channel.Tool device) (Row.Tool device key) ≡ Ok n)
+            × Holds self.new n) }
+        ensures fault { IfErr result (λ fault. (c : Contents) → Holds self.old c
+            → IsFault fault (with_key c place (Channel.Tool device) (Row.Tool device key))) }
     {
         if !self.devices.insert(device)? {
             return Err(KeyringFault::Twice(place));
@@ -79,7 +83,8 @@ impl Gathered {
     }
 
     fn add_listing(&mut self, alloc: Global, listing: &Listing) -> Result<(), NoMemory>
-        ensures { OnOk result ((c : Contents) → Holds self.old c → Holds self.new (record { rows = c.rows; listings = c.listings ++ listing.now ∷ [] })) }
+        ensures { OnOk result ((c : Contents) → Holds self.old c
+            → Holds self.new (record { rows = c.rows; listings = c.listings ++ listing.now ∷ [] })) }
     {
         insert_listing(alloc, &mut self.senders, listing)
     }
@@ -91,7 +96,8 @@ impl Gathered {
         place: usize,
         said: Said,
     ) -> Result<(), KeyringFault>
-        ensures taken { OnOk result ((c : Contents) → Holds self.old c → (n : Contents) × (taken c place said ≡ Ok n) × Holds self.new n) }
+        ensures taken { OnOk result ((c : Contents) → Holds self.old c → (n : Contents) × (taken c place said ≡ Ok n)
+            × Holds self.new n) }
         ensures fault { IfErr result (λ fault. (c : Contents) → Holds self.old c → IsFault fault (taken c place said)) }
     {
         match said {
@@ -119,7 +125,8 @@ fn insert_listing(
     senders: &mut BTreeMap<GroupAddr, BTreeSet<IndAddr>>,
     listing: &Listing,
 ) -> Result<(), NoMemory>
-    ensures { OnOk result ((listings : List Listing) → AreListed senders.old listings → AreListed senders.new (listings ++ listing.now ∷ [])) }
+    ensures { OnOk result ((listings : List Listing) → AreListed senders.old listings
+        → AreListed senders.new (listings ++ listing.now ∷ [])) }
 {
     let mut set = match senders.remove(&listing.group) {
         Some(set) => set,

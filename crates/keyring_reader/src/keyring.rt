@@ -32,8 +32,8 @@ impl Model for Keyring {
 }
 
 impl Keyring {
-    /// The rows: the keys in the order of the document, the roles on groups by ascending group, and the roles on devices by
-    /// ascending device.
+    /// The rows: the keys in the order of the document, the roles on groups by ascending group, and the roles on
+    /// devices by ascending device.
     pub fn rows(&self) -> &[Row]
         ensures { result.now ≡ self.now }
     {
@@ -59,8 +59,10 @@ fn wrapping_of(
     created: &str,
     signature: &str,
 ) -> Result<Wrapping, KeyringFault>
-    ensures wrapping { IfOk result (λ under. wrapping_of key tags.now (record { created = created.now; signature = signature.now }) ≡ Ok under) }
-    ensures fault { IfErr result (λ fault. IsFault fault (wrapping_of key tags.now (record { created = created.now; signature = signature.now }))) }
+    ensures wrapping { IfOk result (λ under. wrapping_of key tags.now
+        (record { created = created.now; signature = signature.now }) ≡ Ok under) }
+    ensures fault { IfErr result (λ fault. IsFault fault (wrapping_of key tags.now
+        (record { created = created.now; signature = signature.now }))) }
 {
     let computed = signature_of(alloc, tags, &key)?;
     match signature_fault(stored_block(signature), computed) {
@@ -91,10 +93,11 @@ pub(crate) fn keyring_under(
 
 /// The keyring of a document's octets and a password.
 ///
-/// It is refused, in this order: because the octets are no element document; because the root element is no `Keyring`, or an
-/// element has a text too long to be signed, or the root lacks `Created` or `Signature`; because the signature is another than
-/// the computed one; and then for the first element that lacks an attribute, or whose address, or whose key, is none, or that
-/// has a second key of a group or a device. No key is used before the signature was found to be the computed one.
+/// It is refused, in this order: because the octets are no element document; because the root element is no `Keyring`,
+/// or an element has a text too long to be signed, or the root lacks `Created` or `Signature`; because the signature is
+/// another than the computed one; and then for the first element that lacks an attribute, or whose address, or whose
+/// key, is none, or that has a second key of a group or a device. No key is used before the signature was found to be
+/// the computed one.
 pub fn read_keyring(alloc: Global, bytes: &[u8], password: &[u8]) -> Result<Keyring, KeyringFault>
     ensures rows { IfOk result (λ keyring. keyring_of bytes.now password.now ≡ Ok keyring) }
     ensures once { IfOk result (λ keyring. NoneTwice keyring) }

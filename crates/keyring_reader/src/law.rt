@@ -13,22 +13,27 @@ ghost use Rattle.keyring_reader.specs.Roles.{ascending};
 ghost use Rattle.keyring_reader.specs.Signed.{is_signed, by_name};
 ghost use Rattle.tag_text.specs.Names.{DifferInName};
 
-/// The groups, the devices and the senders that role rows are told of ascend, and are those of the list that is put in order;
-/// the names of the attributes that are signed ascend, and those are the signed ones of the tag, each once: no tag names an
-/// attribute twice.
+/// The groups, the devices and the senders that role rows are told of ascend, and are those of the list that is put in
+/// order; the names of the attributes that are signed ascend, and those are the signed ones of the tag, each once: no
+/// tag names an attribute twice.
 pub fn lists_ascend()
     ensures groups { (groups : List GroupAddr) → IsStrictlySortedBy by_group (ascending (λ group. group.0) groups) }
-    ensures same_groups { (groups : List GroupAddr) (n : ℕ) → list_any (λ group. group.0 == n) (ascending (λ group. group.0) groups) ≡ list_any (λ group. group.0 == n) groups }
+    ensures same_groups { (groups : List GroupAddr) (n : ℕ) → list_any (λ group. group.0 == n)
+        (ascending (λ group. group.0) groups) ≡ list_any (λ group. group.0 == n) groups }
     ensures devices { (devices : List IndAddr) → IsStrictlySortedBy by_device (ascending (λ device. device.0) devices) }
-    ensures same_devices { (devices : List IndAddr) (n : ℕ) → list_any (λ device. device.0 == n) (ascending (λ device. device.0) devices) ≡ list_any (λ device. device.0 == n) devices }
-    ensures names { (attributes : List (List ℕ × List ℕ)) → IsStrictlySortedBy (slice_cmp nat_cmp) (map (λ attribute. attribute.0) (by_name attributes)) }
-    ensures same_attributes { (attributes : List (List ℕ × List ℕ)) → DifferInName attributes → IsPermutation (filter is_signed attributes) (by_name (filter is_signed attributes)) }
+    ensures same_devices { (devices : List IndAddr) (n : ℕ) → list_any (λ device. device.0 == n)
+        (ascending (λ device. device.0) devices) ≡ list_any (λ device. device.0 == n) devices }
+    ensures names { (attributes : List (List ℕ × List ℕ)) → IsStrictlySortedBy (slice_cmp nat_cmp)
+        (map (λ attribute. attribute.0) (by_name attributes)) }
+    ensures same_attributes { (attributes : List (List ℕ × List ℕ)) → DifferInName attributes
+        → IsPermutation (filter is_signed attributes) (by_name (filter is_signed attributes)) }
 {}
 
-/// A text is the base64 of one block at most, and every block has its text; a key that is unwrapped has the wrapped one as its
-/// CBC.
+/// A text is the base64 of one block at most, and every block has its text; a key that is unwrapped has the wrapped one
+/// as its CBC.
 pub fn blocks_are_found()
     ensures encoded { (block : List ℕ) → IsBlock block → stored_block (base64_of block) ≡ Some block }
     ensures stored { (text block : List ℕ) → stored_block text ≡ Some block → base64_of block ≡ text }
-    ensures wrapped { (key vector wrapped plain : List ℕ) → unwrapped key vector wrapped ≡ Some plain → cbc_of key vector plain ≡ wrapped }
+    ensures wrapped { (key vector wrapped plain : List ℕ) → unwrapped key vector wrapped ≡ Some plain
+        → cbc_of key vector plain ≡ wrapped }
 {}

@@ -1,5 +1,5 @@
-//! The keyrings of an installation, as the commissioning software writes them: a signed element document with the keys of
-//! groups and of devices, each wrapped under a key of the password. A keyring gives the rows of the installation.
+//! The keyrings of an installation, as the commissioning software writes them: a signed element document with the keys
+//! of groups and of devices, each wrapped under a key of the password. A keyring gives the rows of the installation.
 #![tactic(auto)]
 
 mod attribute;

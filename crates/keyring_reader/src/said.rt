@@ -53,7 +53,8 @@ impl Senders {
     }
 }
 
-/// An interface lists a group, to which these may send: the senders that it names, and its own address where it has one.
+/// An interface lists a group, to which these may send: the senders that it names, and its own address where it has
+/// one.
 #[derive(Drop)]
 pub(crate) struct Listing {
     pub(crate) group: GroupAddr,
@@ -91,7 +92,8 @@ fn key_at(under: &Wrapping, place: usize, text: &str) -> Result<[u8; 16], Keyrin
 
 // Appends the addresses that the words of the text are.
 fn push_devices(senders: &mut Senders, place: usize, text: &str) -> Result<(), KeyringFault>
-    ensures pushed { OnOk result ((devices : List IndAddr) × (devices_at place (words_of text.now) ≡ Ok devices) × (senders.new ≡ senders.old ++ devices)) }
+    ensures pushed { OnOk result ((devices : List IndAddr) × (devices_at place (words_of text.now) ≡ Ok devices)
+        × (senders.new ≡ senders.old ++ devices)) }
     ensures fault { IfErr result (λ fault. IsFault fault (devices_at place (words_of text.now))) }
 {
     'words: for word in text.split(' ') {

@@ -45,7 +45,8 @@ fn by_name(alloc: Global, attributes: &Attributes) -> Result<BTreeMap<&str, &str
 }
 
 fn sign_attributes(hasher: &mut Sha256, attributes: &BTreeMap<&str, &str>)
-    ensures { (m : List ℕ) → Holds256 hasher.old m → Holds256 hasher.new (m ++ flat_map signed_attribute (map deref_texts attributes.now.entries)) }
+    ensures { (m : List ℕ) → Holds256 hasher.old m → Holds256 hasher.new
+        (m ++ flat_map signed_attribute (map deref_texts attributes.now.entries)) }
 {
     'attributes: for (name, value) in attributes {
         sign_attribute(hasher, name, value);
@@ -53,7 +54,8 @@ fn sign_attributes(hasher: &mut Sha256, attributes: &BTreeMap<&str, &str>)
 }
 
 fn sign_start(hasher: &mut Sha256, name: &str, attributes: &BTreeMap<&str, &str>)
-    ensures { (m : List ℕ) → Holds256 hasher.old m → Holds256 hasher.new (m ++ (1 ∷ sized name.now ++ flat_map signed_attribute (map deref_texts attributes.now.entries))) }
+    ensures { (m : List ℕ) → Holds256 hasher.old m → Holds256 hasher.new
+        (m ++ (1 ∷ sized name.now ++ flat_map signed_attribute (map deref_texts attributes.now.entries))) }
 {
     hasher.update(&[1][..]);
     sign_text(hasher, name.as_bytes());
@@ -79,7 +81,8 @@ fn sign_tag(alloc: Global, hasher: &mut Sha256, tag: &Tag) -> Result<(), NoMemor
 }
 
 fn sign_tags(alloc: Global, hasher: &mut Sha256, tags: &[Tag]) -> Result<(), NoMemory>
-    ensures { OnOk result ((m : List ℕ) → Holds256 hasher.old m → Holds256 hasher.new (m ++ flat_map signed_tag tags.now)) }
+    ensures { OnOk result ((m : List ℕ) → Holds256 hasher.old m
+        → Holds256 hasher.new (m ++ flat_map signed_tag tags.now)) }
 {
     'tags: for tag in tags {
         sign_tag(alloc, hasher, tag)?;

@@ -192,7 +192,8 @@ fn elements_are_refused_in_order(rt: HostRuntime) -> Result<(), Fail> {
     Ok(())
 }
 
-// An element of each kind that lacks an attribute, or that has an address or a key that is none, or that is there twice.
+// An element of each kind that lacks an attribute, or that has an address or a key that is none, or that is there
+// twice.
 const REFUSED: [(&str, KeyringFault); 14] = [
     (
         r#"<Keyring Created="c" Signature="qjq74cNzjmNKRmHMOR8RlQ=="><GroupAddresses><Group/></GroupAddresses></Keyring>"#,

@@ -2,5 +2,6 @@
 use Rattle.std.proofs.Common.{◌≡◌, ℕ, Result, Ok, arith}
 use Rattle.knx_base.specs.Faults.{HasCause}
 
-pub cause_kept : {T E : Type 0} {before now : ℕ} {value : T} → now ≡ before → HasCause {T = T} {E = E} before now (Ok value)
+pub cause_kept : {T E : Type 0} {before now : ℕ} {value : T} → now ≡ before
+    → HasCause {T = T} {E = E} before now (Ok value)
 cause_kept same = record { later = omega (arith, same); kept = same; failed = tt }

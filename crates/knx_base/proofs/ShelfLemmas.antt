@@ -29,7 +29,8 @@ true_named stored name same = (bytes_eq-Decides stored.name name).1 same
 false_named : (stored : Stored) (name : List ℕ) → stored.name ≢ name → has_name name stored ≡ false
 false_named stored name other = false_by stored name other (has_name name stored) refl
   where
-    false_by : (stored : Stored) (name : List ℕ) → stored.name ≢ name → (b : Bool) → has_name name stored ≡ b → b ≡ false
+    false_by : (stored : Stored) (name : List ℕ) → stored.name ≢ name → (b : Bool) → has_name name stored ≡ b
+        → b ≡ false
     false_by stored name other true is = absurd (other (named-true stored name is))
     false_by stored name other false is = refl
 
@@ -44,7 +45,8 @@ none_step name k stored rest ih false is = ih is
 none_from : (name : List ℕ) (k : ℕ) (files : List Stored) → position_from (has_name name) k files ≡ None
     → octets_named (map file_of files) name ≡ None
 none_from name k [] is = refl
-none_from name k (stored ∷ rest) is = none_step name k stored rest (none_from name (k + 1) rest) (has_name name stored) is
+none_from name k (stored ∷ rest) is =
+    none_step name k stored rest (none_from name (k + 1) rest) (has_name name stored) is
 
 -- a position that was found is that of the first file of the name
 first_step : (name : List ℕ) (k i : ℕ) (stored : Stored) (rest : List Stored)
@@ -66,7 +68,8 @@ pub none-position : (files : List Stored) (name : List ℕ) → position (has_na
     → octets_named (map file_of files) name ≡ None
 none-position files name is = none_from name 0 files (sym (position_from-zero (has_name name) files) ∙ is)
 
-pub first-position : (files : List Stored) (name : List ℕ) (i : ℕ) → position (has_name name) files ≡ Some i → FirstAt files i name
+pub first-position : (files : List Stored) (name : List ℕ) (i : ℕ) → position (has_name name) files ≡ Some i
+    → FirstAt files i name
 first-position files name i is =
     let found = first_from name 0 i files (sym (position_from-zero (has_name name) files) ∙ is) in
     let P : ℕ → Type 0 = λ j. FirstAt files j name in
@@ -79,7 +82,8 @@ length-first [] i name first = absurd first
 length-first (stored ∷ rest) zero name first = omega arith
 length-first (stored ∷ rest) (suc i) name first = omega (arith, length-first rest i name first.1)
 
-pub name-first : (files : List Stored) (i : ℕ) (name : List ℕ) (d : Stored) → FirstAt files i name → (get_or files i d).name ≡ name
+pub name-first : (files : List Stored) (i : ℕ) (name : List ℕ) (d : Stored) → FirstAt files i name
+    → (get_or files i d).name ≡ name
 name-first [] i name d first = absurd first
 name-first (stored ∷ rest) zero name d first = first
 name-first (stored ∷ rest) (suc i) name d first = name-first rest i name d first.1
@@ -104,7 +108,8 @@ place-first [] i name d first = absurd first
 place-first (stored ∷ rest) zero name d first =
     ap (λ b. cond b stored.place (place_named rest name)) (true_named stored name first)
 place-first (stored ∷ rest) (suc i) name d first =
-    ap (λ b. cond b stored.place (place_named rest name)) (false_named stored name first.0) ∙ place-first rest i name d first.1
+    ap (λ b. cond b stored.place (place_named rest name)) (false_named stored name first.0)
+    ∙ place-first rest i name d first.1
 
 -- the first file of a name stays so where its place alone changes, and no other name's place changes
 pub set-first : (files : List Stored) (i : ℕ) (name : List ℕ) (new : Stored) → FirstAt files i name → new.name ≡ name
@@ -113,17 +118,20 @@ set-first [] i name new first is = absurd first
 set-first (stored ∷ rest) zero name new first is = is
 set-first (stored ∷ rest) (suc i) name new first is = (first.0, set-first rest i name new first.1 is)
 
-pub place_other : (files : List Stored) (i : ℕ) (name other : List ℕ) (new : Stored) → FirstAt files i name → new.name ≡ name
+pub place_other : (files : List Stored) (i : ℕ) (name other : List ℕ) (new : Stored) → FirstAt files i name
+    → new.name ≡ name
     → other ≢ name → place_named (set files i new) other ≡ place_named files other
 place_other [] i name other new first is differs = absurd first
 place_other (stored ∷ rest) zero name other new first is differs =
     ap (λ b. cond b new.place (place_named rest other)) (false_named new other (λ same. differs (sym same ∙ is)))
-    ∙ sym (ap (λ b. cond b stored.place (place_named rest other)) (false_named stored other (λ same. differs (sym same ∙ first))))
+    ∙ sym (ap (λ b. cond b stored.place (place_named rest other))
+    (false_named stored other (λ same. differs (sym same ∙ first))))
 place_other (stored ∷ rest) (suc i) name other new first is differs =
     ap (λ back. cond (has_name other stored) stored.place back) (place_other rest i name other new first.1 is differs)
 
 -- the first file of a name stays so where a file is added at the end
-pub first-append : (files more : List Stored) (i : ℕ) (name : List ℕ) → FirstAt files i name → FirstAt (files ++ more) i name
+pub first-append : (files more : List Stored) (i : ℕ) (name : List ℕ) → FirstAt files i name
+    → FirstAt (files ++ more) i name
 first-append [] more i name first = absurd first
 first-append (stored ∷ rest) more zero name first = first
 first-append (stored ∷ rest) more (suc i) name first = (first.0, first-append rest more i name first.1)
@@ -140,7 +148,8 @@ named_set files i name d old new place first is moved =
     ap (λ (f : Stored). f.name) moved ∙ ap (λ (f : Stored). f.name) is ∙ name-first files i name d first
 
 -- the current file stays the first of its name
-pub still_first : (files : List Stored) (i x : ℕ) (name : List ℕ) (d old new : Stored) (place : ℕ) → FirstAt files i name
+pub still_first : (files : List Stored) (i x : ℕ) (name : List ℕ) (d old new : Stored) (place : ℕ)
+    → FirstAt files i name
     → old ≡ get_or files i d → new ≡ record old { place = place } → Some i ≡ Some x
     → FirstAt (set files i new) x (name_at (set files i new) x)
 still_first files i x name d old new place first is moved same =
@@ -153,14 +162,17 @@ still_first files i x name d old new place first is moved same =
 place_set : (files : List Stored) (i : ℕ) (name : List ℕ) (d old new : Stored) (place : ℕ) → FirstAt files i name
     → old ≡ get_or files i d → new ≡ record old { place = place } → place_named (set files i new) name ≡ place
 place_set files i name d old new place first is moved =
-    place-first (set files i new) i name d (set-first files i name new first (named_set files i name d old new place first is moved))
+    place-first (set files i new) i name d (set-first files i name new first
+    (named_set files i name d old new place first is moved))
     ∙ ap (λ (f : Stored). f.place) (get_or-set_same files i new d (length-first files i name first))
     ∙ ap (λ (f : Stored). f.place) moved
 
 -- the first file of a name was made current, at its start
-pub opened : (files : List Stored) (current : Option (List ℕ)) (i : ℕ) (name : List ℕ) (d old new : Stored) → FirstAt files i name
+pub opened : (files : List Stored) (current : Option (List ℕ)) (i : ℕ) (name : List ℕ) (d old new : Stored)
+    → FirstAt files i name
     → old ≡ get_or files i d → new ≡ record old { place = 0 }
-    → IsAtStart (seen_in_memory files current 0) (seen_in_memory (set files i new) (Some (name_at (set files i new) i)) 0) name
+    → IsAtStart (seen_in_memory files current 0) (seen_in_memory (set files i new) (Some (name_at (set files i new) i))
+    0) name
 opened files current i name d old new first is moved =
     let same_name = named_set files i name d old new 0 first is moved in
     let at_name = name_at-first (set files i new) i name (set-first files i name new first same_name) in
@@ -174,7 +186,8 @@ opened files current i name d old new first is moved =
     }
 
 -- the current file gave n octets
-pub moved_on : (files : List Stored) (i n room : ℕ) (d old new : Stored) (buffer : List ℕ) → FirstAt files i (name_at files i)
+pub moved_on : (files : List Stored) (i n room : ℕ) (d old new : Stored) (buffer : List ℕ)
+    → FirstAt files i (name_at files i)
     → old ≡ get_or files i d → new ≡ record old { place = old.place + n }
     → n ≡ min room (length old.octets - old.place) → 0 < room → n ≤ length buffer
     → take n buffer ≡ take n (drop old.place old.octets) → new.place ≤ last_place
@@ -185,12 +198,15 @@ moved_on files i n room d old new buffer first is moved count some bound given l
     let same_name : new.name ≡ name = named_set files i name d old new (old.place + n) first is moved in
     let at_name : name_at (set files i new) i ≡ name =
     name_at-first (set files i new) i name (set-first files i name new first same_name) in
-    let before : place_named files name ≡ old.place = place-first files i name d first ∙ sym (ap (λ (f : Stored). f.place) is) in
-    let after : place_named (set files i new) name ≡ old.place + n = place_set files i name d old new (old.place + n) first is moved in
+    let before : place_named files name ≡ old.place =
+    place-first files i name d first ∙ sym (ap (λ (f : Stored). f.place) is) in
+    let after : place_named (set files i new) name ≡ old.place + n =
+    place_set files i name d old new (old.place + n) first is moved in
     let now : place_named (set files i new) (name_at (set files i new) i) ≡ old.place + n =
     ap (place_named (set files i new)) at_name ∙ after in
     let place_is : new.place ≡ old.place + n = ap (λ (f : Stored). f.place) moved in
-    let told : (m octets : List ℕ) → Some name ≡ Some m → octets_named (map file_of files) m ≡ Some octets → old.octets ≡ octets =
+    let told : (m octets : List ℕ) → Some name ≡ Some m → octets_named (map file_of files) m ≡ Some octets
+    → old.octets ≡ octets =
     λ m octets same holds. ap (λ (f : Stored). f.octets) is
     ∙ same_Some (get_or files i d).octets octets
     (sym (octets-first files i name d first) ∙ ap (octets_named (map file_of files)) (same_Some name m same) ∙ holds) in
@@ -205,7 +221,8 @@ moved_on files i n room d old new buffer first is moved count some bound given l
       end = λ m octets same holds none. ap (λ l. drop (place_named files name) l) (sym (told m octets same holds))
           ∙ drop_of_length-le old.octets (omega (arith, before, count, some, none));
       moved = λ m same _. ap (place_named (set files i new)) (sym (same_Some name m same) ∙ sym at_name);
-      others = λ other differs. place_other files i name other new first same_name (λ same. differs (ap Some (sym same)));
+      others =
+          λ other differs. place_other files i name other new first same_name (λ same. differs (ap Some (sym same)));
     }
 
 -- the search for a name in these files found this place
@@ -219,18 +236,22 @@ first_found files searched name found i same is at =
 pub never_missing : (files searched : List Stored) (name : List ℕ) (found : Option ℕ) → searched ≡ files
     → found ≡ position (has_name name) searched → found ≡ None → IsSome (octets_named (map file_of files) name) → ⊥
 never_missing files searched name found same is none there =
-    false≢true (sym (ap is_some (ap (λ list. octets_named (map file_of list) name) (sym same) ∙ none-position searched name (sym is ∙ none))) ∙ there)
+    false≢true (sym (ap is_some (ap (λ list. octets_named (map file_of list) name) (sym same)
+    ∙ none-position searched name (sym is ∙ none))) ∙ there)
 
 -- the current file stays the first of its name where a file is added
-pub first_added : (files more : List Stored) (i : ℕ) → FirstAt files i (name_at files i) → FirstAt (files ++ more) i (name_at (files ++ more) i)
+pub first_added : (files more : List Stored) (i : ℕ) → FirstAt files i (name_at files i)
+    → FirstAt (files ++ more) i (name_at (files ++ more) i)
 first_added files more i first =
     let kept = first-append files more i (name_at files i) first in
     let P : List ℕ → Type 0 = λ name. FirstAt (files ++ more) i name in
     subst P (sym (name_at-first (files ++ more) i (name_at files i) kept)) kept
 
 -- and keeps its name
-pub named_added : (files more : List Stored) (current : Option ℕ) → ((i : ℕ) → current ≡ Some i → FirstAt files i (name_at files i))
+pub named_added : (files more : List Stored) (current : Option ℕ)
+    → ((i : ℕ) → current ≡ Some i → FirstAt files i (name_at files i))
     → option_map (name_at (files ++ more)) current ≡ option_map (name_at files) current
 named_added files more None first = refl
 named_added files more (Some i) first =
-    ap Some (name_at-first (files ++ more) i (name_at files i) (first-append files more i (name_at files i) (first i refl)))
+    ap Some (name_at-first (files ++ more) i (name_at files i)
+    (first-append files more i (name_at files i) (first i refl)))

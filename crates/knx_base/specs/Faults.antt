@@ -13,7 +13,8 @@ Rose before now = counted before ≤ now
 abbrev pub CountsFault : {T E : Type 0} → ℕ → ℕ → Result T E → Type 0
 CountsFault before now result = MatchResult result (λ _. now ≡ before) (λ _. now ≡ counted before)
 
--- a call never lessens its object's count of faults; it leaves the count as it was where it answers, and fails only where it rose
+-- a call never lessens its object's count of faults; it leaves the count as it was where it answers, and fails only
+-- where it rose
 pub record HasCause {T E : Type 0} (before now : ℕ) (result : Result T E) : Type 0 where
   pub later : before ≤ now
   pub kept : OnOk result (now ≡ before)

@@ -82,7 +82,8 @@ fn read_individual(text: &str) -> Option<u16>
 }
 
 fn individual(area: &str, line: &str, device: &str) -> Option<u16>
-    ensures { result ≡ individual_value (decimal_up_to 15 area.now) (decimal_up_to 15 line.now) (decimal_up_to 255 device.now) }
+    ensures { result ≡ individual_value (decimal_up_to 15 area.now) (decimal_up_to 15 line.now)
+        (decimal_up_to 255 device.now) }
 {
     Some(part(area, 15)? * 4096 + part(line, 15)? * 256 + part(device, 255)?)
 }
@@ -106,7 +107,8 @@ fn two_level(main: &str, sub: &str) -> Option<u16>
 }
 
 fn three_level(main: &str, middle: &str, sub: &str) -> Option<u16>
-    ensures { result ≡ three_level_value (decimal_up_to 31 main.now) (decimal_up_to 7 middle.now) (decimal_up_to 255 sub.now) }
+    ensures { result ≡ three_level_value (decimal_up_to 31 main.now) (decimal_up_to 7 middle.now)
+        (decimal_up_to 255 sub.now) }
 {
     Some(part(main, 31)? * 2048 + part(middle, 7)? * 256 + part(sub, 255)?)
 }
@@ -122,7 +124,8 @@ fn part(text: &str, most: u16) -> Option<u16>
 // What stands before the first separator, and what stands after it.
 fn cut_at(text: &str, separator: char) -> Option<(&str, &str)>
     requires ascii { separator < 128 }
-    ensures cut { MatchOption result (pieces_of separator text.now ≡ text.now ∷ []) (λ parts. pieces_of separator text.now ≡ parts.0.now ∷ pieces_of separator parts.1.now) }
+    ensures cut { MatchOption result (pieces_of separator text.now ≡ text.now ∷ [])
+        (λ parts. pieces_of separator text.now ≡ parts.0.now ∷ pieces_of separator parts.1.now) }
 {
     text.split_once(separator)
 }

@@ -69,7 +69,13 @@ pub struct HostFiles<'a, R: rt::Files> {
 impl<'a, R: rt::Files> Model for HostFiles<'a, R> {
     ghost Value = { HostState };
 
-    ghost view = { λ s. record { current = option_map (λ _. []) s.file; remaining = option_and_then R.File.remaining s.file; place = s.place; faults = s.faults } };
+    ghost view = { λ s. record {
+      current = option_map (λ _. []) s.file;
+      remaining = option_and_then R.File.remaining
+          s.file;
+      place = s.place;
+      faults = s.faults;
+    } };
 }
 
 impl<'a, R: rt::Files> HostFiles<'a, R> {
@@ -93,7 +99,11 @@ impl<R: rt::Files> Files for HostFiles<'_, R> {
     fn open(&mut self, name: &str) -> Result<(), Failed>
         ensures opens { Opens (seen_of self.old) (seen_of self.new) name.now result }
         ensures counted { CountsFault self.old.faults self.new.faults result }
-        ensures only_closed { OnErr result (self.new ≡ record self.old { current = None; remaining = None; faults = counted self.old.faults }) }
+        ensures only_closed { OnErr result (self.new ≡ record self.old {
+          current = None;
+          remaining = None;
+          faults = counted self.old.faults;
+        }) }
     {
         self.file = None;
         match open_file(self.host, name) {

@@ -1,5 +1,6 @@
-//! What every crate of the workspace stands on: addresses and decimals as text, numbers of 48 bits, the two faults, and the traits through which the
-//! program sees the world outside, files and a sink of octets, with implementations in memory and over the host.
+//! What every crate of the workspace stands on: addresses and decimals as text, numbers of 48 bits, the two faults, and
+//! the traits through which the program sees the world outside, files and a sink of octets, with implementations in
+//! memory and over the host.
 #![tactic(auto)]
 
 mod address;

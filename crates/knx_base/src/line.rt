@@ -1,8 +1,10 @@
 ghost use Rattle.std.specs.Prelude.{◌≡◌, ℕ, ◌+◌, ◌*◌, ◌≤◌, ◌<◌, List, [], ◌∷◌, ◌++◌, length, take};
 ghost use Rattle.std.specs.Fmt.{decimal};
 ghost use Rattle.hex.specs.Hex.{encode_lower};
+ghost use Rattle.knx_base.specs.Address.{individual_text, group_text};
 
 use crate::decimal::{put_decimal, put_octet};
+use crate::{GroupAddr, IndAddr};
 use std::marker::Model;
 
 /// The most octets of a line that is written.
@@ -74,6 +76,28 @@ impl LineBuf {
         ensures short { length self.new ≤ length self.old + 20 }
     {
         self.len = put_decimal(&mut self.store, self.len, number);
+    }
+
+    /// Adds the text of an individual address, as `1.1.7`.
+    pub fn individual(&mut self, address: IndAddr)
+        requires room { length self.old + 12 ≤ 1024 }
+        ensures added { self.new ≡ self.old ++ individual_text address.0 }
+        ensures short { length self.new ≤ length self.old + 12 }
+    {
+        let mut text = [0; 12];
+        let count = address.write_text(&mut text);
+        self.octets(&text[..count]);
+    }
+
+    /// Adds the text of a group address, as `1/2/3`.
+    pub fn group(&mut self, address: GroupAddr)
+        requires room { length self.old + 12 ≤ 1024 }
+        ensures added { self.new ≡ self.old ++ group_text address.0 }
+        ensures short { length self.new ≤ length self.old + 12 }
+    {
+        let mut text = [0; 12];
+        let count = address.write_text(&mut text);
+        self.octets(&text[..count]);
     }
 
     /// Adds octets in hexadecimal, two digits each, in lower case.

@@ -24,7 +24,13 @@ pub struct MemFiles {
 impl Model for MemFiles {
     ghost Value = { MemFilesState };
 
-    ghost view = { λ m. record { files = m.shelf.files; current = m.shelf.current; armed = m.armed.items; calls = m.calls; faults = m.faults } };
+    ghost view = { λ m. record {
+      files = m.shelf.files;
+      current = m.shelf.current;
+      armed = m.armed.items;
+      calls = m.calls;
+      faults = m.faults;
+    } };
 }
 
 impl MemFiles {
@@ -45,7 +51,10 @@ impl MemFiles {
     pub fn add(&mut self, name: &str, octets: &[u8]) -> Result<(), NoMemory>
         requires new { octets_named (map file_of self.old.files) name.now ≡ None }
         requires short { length octets.now ≤ 2 ^ 40 }
-        ensures added { OnOk result (self.new ≡ record self.old { files = self.old.files ++ (record { name = name.now; octets = octets.now; place = 0 }) ∷ [] }) }
+        ensures added { OnOk result (self.new ≡ record self.old {
+          files = self.old.files
+              ++ (record { name = name.now; octets = octets.now; place = 0 }) ∷ [];
+        }) }
         ensures unchanged { OnErr result (self.new ≡ self.old) }
     {
         self.shelf.add(self.alloc, name, octets)
@@ -96,7 +105,11 @@ impl Files for MemFiles {
         ensures counted { self.new.calls ≡ counted self.old.calls }
         ensures faults { self.new.faults ≡ (if is_armed self.old then counted self.old.faults else self.old.faults) }
         ensures armed { self.new.armed ≡ self.old.armed }
-        ensures only_closed { OnErr result (self.new ≡ record self.old { current = None; calls = counted self.old.calls; faults = counted self.old.faults }) }
+        ensures only_closed { OnErr result (self.new ≡ record self.old {
+          current = None;
+          calls = counted self.old.calls;
+          faults = counted self.old.faults;
+        }) }
     {
         if self.is_armed() {
             self.count_failure();
@@ -117,7 +130,11 @@ impl Files for MemFiles {
         ensures counted { self.new.calls ≡ counted self.old.calls }
         ensures faults { self.new.faults ≡ (if is_armed self.old then counted self.old.faults else self.old.faults) }
         ensures armed { self.new.armed ≡ self.old.armed }
-        ensures unmoved { OnErr result (self.new ≡ record self.old { calls = counted self.old.calls; faults = counted self.old.faults }) }
+        ensures unmoved { OnErr result (self.new ≡ record self.old {
+          calls = counted self.old.calls;
+          faults = counted
+              self.old.faults;
+        }) }
     {
         if self.is_armed() {
             self.count_failure();

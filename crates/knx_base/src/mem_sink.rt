@@ -21,7 +21,13 @@ pub struct MemSink {
 impl Model for MemSink {
     ghost Value = { MemSinkState };
 
-    ghost view = { λ s. record { octets = take s.taken s.store.items; room = length s.store.items; armed = s.armed.items; calls = s.calls; faults = s.faults } };
+    ghost view = { λ s. record {
+      octets = take s.taken s.store.items;
+      room = length s.store.items;
+      armed = s.armed.items;
+      calls = s.calls;
+      faults = s.faults;
+    } };
 
     ghost invariant = { λ s. s.taken ≤ length s.store.items };
 }

@@ -90,7 +90,10 @@ impl Shelf {
 
     pub(crate) fn add(&mut self, alloc: Global, name: &str, octets: &[u8]) -> Result<(), NoMemory>
         requires short { length octets.now ≤ 2 ^ 40 }
-        ensures added { OnOk result (self.new ≡ record self.old { files = self.old.files ++ (record { name = name.now; octets = octets.now; place = 0 }) ∷ [] }) }
+        ensures added { OnOk result (self.new ≡ record self.old {
+          files = self.old.files
+              ++ (record { name = name.now; octets = octets.now; place = 0 }) ∷ [];
+        }) }
         ensures unchanged { OnErr result (self.new ≡ self.old) }
     {
         let file = StoredFile::new(alloc, name, octets)?;
@@ -101,7 +104,8 @@ impl Shelf {
     pub(crate) fn open(&mut self, name: &str)
         requires there { IsThere (map file_of self.old.files) name.now }
         ensures told { map file_of self.new.files ≡ map file_of self.old.files }
-        ensures start { IsAtStart (seen_in_memory self.old.files self.old.current 0) (seen_in_memory self.new.files self.new.current 0) name.now }
+        ensures start { IsAtStart (seen_in_memory self.old.files self.old.current 0)
+            (seen_in_memory self.new.files self.new.current 0) name.now }
     {
         if let Some(index) = position_named(&self.files, name) {
             let file = &mut self.files[index];
@@ -120,7 +124,8 @@ impl Shelf {
         requires room { 0 < length buffer.old }
         requires current { IsSome self.old.current }
         ensures told { map file_of self.new.files ≡ map file_of self.old.files }
-        ensures moves { MovesOn (seen_in_memory self.old.files self.old.current 0) (seen_in_memory self.new.files self.new.current 0) buffer.new result }
+        ensures moves { MovesOn (seen_in_memory self.old.files self.old.current 0)
+            (seen_in_memory self.new.files self.new.current 0) buffer.new result }
     {
         match self.current {
             Some(index) => {

@@ -15,10 +15,13 @@ use Rattle.knx_ccm.specs.Sealing.{two_octets, is_confidential, block_0, counter_
 pub code_from : (key mac_key : List ℕ) (head : Head) (apdu first second whole code : List ℕ) (encrypted readable : ℕ)
     → mac_key ≡ key → encrypted ≡ encrypted_length head apdu → readable ≡ readable_length head apdu
     → first ≡ block_0 head encrypted → second ≡ two_octets readable
-    → whole ≡ mac_of mac_key (((first ++ second) ++ head.field ∷ []) ++ apdu) → code ≡ take 4 whole → code ≡ code_of key head apdu
+    → whole ≡ mac_of mac_key (((first ++ second) ++ head.field ∷ []) ++ apdu) → code ≡ take 4 whole
+    → code ≡ code_of key head apdu
 unfolding code_of
-code_from key mac_key head apdu first second whole code encrypted readable is_key is_encrypted is_readable is_first is_second is_whole is_code =
-    let begin : first ≡ block_0 head (encrypted_length head apdu) = is_first ∙ ap (λ (n : ℕ). block_0 head n) is_encrypted in
+code_from key mac_key head apdu first second whole code encrypted readable is_key is_encrypted is_readable is_first
+    is_second is_whole is_code =
+    let begin : first ≡ block_0 head (encrypted_length head apdu) =
+    is_first ∙ ap (λ (n : ℕ). block_0 head n) is_encrypted in
     let middle : second ≡ two_octets (readable_length head apdu) = is_second ∙ ap two_octets is_readable in
     is_code ∙ ap (take 4) (is_whole ∙ ap (mac_of mac_key) (append_assoc (first ++ second) (head.field ∷ []) apdu)
     ∙ (λ i. mac_of (is_key i) ((begin i ++ middle i) ++ head.field ∷ apdu)))
@@ -29,7 +32,12 @@ front_and_rest line = take-append-drop 4 line
 
 pub length-code_of : (key : List ℕ) (head : Head) (apdu : List ℕ) → length (code_of key head apdu) ≡ 4
 unfolding code_of
-length-code_of key head apdu = length-take-le 4 (mac_of key _) (omega (arith, length-mac_of key (block_0 head (encrypted_length head apdu) ++ two_octets (readable_length head apdu) ++ head.field ∷ apdu)))
+length-code_of key head apdu = length-take-le 4 (mac_of key _)
+    (omega (
+      arith,
+      length-mac_of key (block_0 head (encrypted_length head apdu)
+          ++ two_octets (readable_length head apdu) ++ head.field ∷ apdu),
+    ))
 
 pub length-ciphered : (key : List ℕ) (head : Head) (octets : List ℕ) → length (ciphered key head octets) ≡ length octets
 unfolding ciphered
@@ -38,10 +46,13 @@ length-ciphered key head octets = by_algorithm (is_confidential head) where
   by_algorithm true = length-with_stream key (counter_0 head) octets
   by_algorithm false = refl
 
-pub ciphered-twice : (key : List ℕ) (head : Head) (octets : List ℕ) → ciphered key head (ciphered key head octets) ≡ octets
+pub ciphered-twice : (key : List ℕ) (head : Head) (octets : List ℕ)
+    → ciphered key head (ciphered key head octets) ≡ octets
 unfolding ciphered
 ciphered-twice key head octets = by_algorithm (is_confidential head) where
-  by_algorithm : (b : Bool) → cond b (with_stream key (counter_0 head) (cond b (with_stream key (counter_0 head) octets) octets)) (cond b (with_stream key (counter_0 head) octets) octets) ≡ octets
+  by_algorithm : (b : Bool) → cond b (with_stream key (counter_0 head)
+      (cond b (with_stream key (counter_0 head) octets) octets))
+      (cond b (with_stream key (counter_0 head) octets) octets) ≡ octets
   by_algorithm true = with_stream-twice key (counter_0 head) octets
   by_algorithm false = refl
 
@@ -53,7 +64,8 @@ unwired body = drop (length body - 4) body ++ take (length body - 4) body
 unwired-turned : (line : List ℕ) → 4 ≤ length line → unwired (drop 4 line ++ take 4 line) ≡ line
 unwired-turned line long =
     let front : length (take 4 line) ≡ 4 = length-take-le 4 line long in
-    let back : length (drop 4 line ++ take 4 line) - 4 ≡ length (drop 4 line) = omega (arith, length-append (drop 4 line) (take 4 line), front) in
+    let back : length (drop 4 line ++ take 4 line) - 4 ≡ length (drop 4 line) =
+    omega (arith, length-append (drop 4 line) (take 4 line), front) in
     (λ i. drop (back i) (drop 4 line ++ take 4 line) ++ take (back i) (drop 4 line ++ take 4 line))
     ∙ (λ i. drop-append_seam (drop 4 line) (take 4 line) i ++ take-append_seam (drop 4 line) (take 4 line) i)
     ∙ front_and_rest line
@@ -69,7 +81,8 @@ turned-unwired body long =
     )
 
 -- what was put on the wire is found there
-pub wired-found : (key : List ℕ) (head : Head) (code apdu body : List ℕ) → length code ≡ 4 → wired key head code apdu ≡ body
+pub wired-found : (key : List ℕ) (head : Head) (code apdu body : List ℕ) → length code ≡ 4
+    → wired key head code apdu ≡ body
     → ciphered key head (unwired body) ≡ code ++ apdu
 unfolding wired
 wired-found key head code apdu body four is =
@@ -106,7 +119,8 @@ opens-back key head body line long is same =
     ap (λ (code : List ℕ). wired key head code (drop 4 line)) (sym same) ∙ wired-back key head body line long is
 
 -- the line of code and APDU is as long as the body
-pub length-line : (key : List ℕ) (head : Head) (body line : List ℕ) → line ≡ line_of key head body → length line ≡ length body
+pub length-line : (key : List ℕ) (head : Head) (body line : List ℕ) → line ≡ line_of key head body
+    → length line ≡ length body
 unfolding line_of
 length-line key head body line is =
     ap length is ∙ length-ciphered key head (unwired body)
@@ -132,14 +146,16 @@ unfolding sealed wired
 sealed_by key head apdu code joined line out rest is_code is_joined is_line is_out =
     let whole : line ≡ ciphered key head (code_of key head apdu ++ apdu) =
     is_line ∙ ap (ciphered key head) (is_joined ∙ ap (λ (front : List ℕ). front ++ apdu) is_code) in
-    let long : length line ≡ 4 + length apdu = ap length whole ∙ length-ciphered key head (code_of key head apdu ++ apdu)
+    let long : length line ≡ 4 + length apdu =
+    ap length whole ∙ length-ciphered key head (code_of key head apdu ++ apdu)
     ∙ omega (arith, length-append (code_of key head apdu) apdu, length-code_of key head apdu) in
     let same : length out ≡ length apdu + 4 = ap length is_out
     ∙ omega (arith, length-append (drop 4 line) (take 4 line), length-drop 4 line, length-take 4 line, long) in
     take_at out rest (length apdu + 4) same ∙ is_out ∙ (λ i. drop 4 (whole i) ++ take 4 (whole i))
 
 -- the APDU on the wire opens where it seals to the body
-pub opened-some : (key : List ℕ) (head : Head) (body apdu : List ℕ) → apdu ≡ said_apdu key head body → Opens key head body apdu
+pub opened-some : (key : List ℕ) (head : Head) (body apdu : List ℕ) → apdu ≡ said_apdu key head body
+    → Opens key head body apdu
     → opened key head body ≡ Some apdu
 opened-some key head body apdu is opens =
     let seals : sealed key head (said_apdu key head body) ≡ body = ap (sealed key head) (sym is) ∙ opens in
@@ -151,8 +167,10 @@ opened-some key head body apdu is opens =
 pub opened-none : (key : List ℕ) (head : Head) (body : List ℕ) → ((apdu : List ℕ) → Opens key head body apdu → ⊥)
     → opened key head body ≡ None
 opened-none key head body never =
-    by_test (pointwise nat_eq (sealed key head (said_apdu key head body)) body) (bytes_eq-Decides (sealed key head (said_apdu key head body)) body).0
+    by_test (pointwise nat_eq (sealed key head (said_apdu key head body)) body)
+    (bytes_eq-Decides (sealed key head (said_apdu key head body)) body).0
   where
-    by_test : (b : Bool) → (b ≡ true → sealed key head (said_apdu key head body) ≡ body) → cond b (Some (said_apdu key head body)) None ≡ None
+    by_test : (b : Bool) → (b ≡ true → sealed key head (said_apdu key head body) ≡ body)
+        → cond b (Some (said_apdu key head body)) None ≡ None
     by_test true says = absurd (never (said_apdu key head body) (says refl))
     by_test false says = refl

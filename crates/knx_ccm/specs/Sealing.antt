@@ -1,5 +1,5 @@
--- Sealing of an APDU of KNX Data Secure: a code by CBC-MAC over its head and octets, and a counter stream over both. Octet
--- by octet this is the profile of docs/RULES.md.
+-- Sealing of an APDU of KNX Data Secure: a code by CBC-MAC over its head and octets, and a counter stream over both.
+-- Octet by octet this is the profile of docs/RULES.md.
 use Rattle.std.specs.Prelude.{◌≡◌, ℕ, ◌+◌, ◌-◌, ◌/◌, ◌%◌, ◌==◌, bit_and, bit_or, Bool, if◌then◌else◌, List, [], ◌∷◌, ◌++◌, length, take, drop, nat_eq, Option, Some, None}
 use Rattle.std.specs.Cmp.Lexicographic.{pointwise}
 use Rattle.knx_base.specs.Number.{octets_of}
@@ -21,7 +21,8 @@ is_confidential head = algorithm head == 1
 abbrev pub nonce_of : Head → List ℕ
 nonce_of head = octets_of head.number ++ two_octets head.source ++ two_octets head.destination
 
--- the block before all others under the code, with the length of what is encrypted; bits 6 to 4 of control 2, the hop count, are left out
+-- the block before all others under the code, with the length of what is encrypted; bits 6 to 4 of control 2, the hop
+-- count, are left out
 abbrev pub block_0 : Head → ℕ → List ℕ
 block_0 head length = nonce_of head ++ 0 ∷ bit_and head.control2 0x8f ∷ bit_or head.tpci 0x03 ∷ 0xf1 ∷ 0 ∷ length ∷ []
 
@@ -40,7 +41,8 @@ readable_length head apdu = if is_confidential head then 1 else length apdu + 1
 -- the code of an APDU
 unfoldable pub code_of : List ℕ → Head → List ℕ → List ℕ
 code_of key head apdu =
-    take 4 (mac_of key (block_0 head (encrypted_length head apdu) ++ two_octets (readable_length head apdu) ++ head.field ∷ apdu))
+    take 4 (mac_of key (block_0 head (encrypted_length head apdu) ++ two_octets (readable_length head apdu)
+    ++ head.field ∷ apdu))
 
 -- the octets under the stream, where there is confidentiality
 unfoldable pub ciphered : List ℕ → Head → List ℕ → List ℕ

@@ -16,8 +16,8 @@ pub struct CodeDiffers {
     pub computed: [u8; 4],
 }
 
-/// Writes the one APDU that seals to `body`, an APDU of at most 242 octets and its code of four, and answers its length (the sealing of
-/// docs/RULES.md, backwards).
+/// Writes the one APDU that seals to `body`, an APDU of at most 242 octets and its code of four, and answers its length
+/// (the sealing of docs/RULES.md, backwards).
 ///
 /// Where no APDU seals to it, `out` has zeros in the place of the APDU.
 pub fn open(key: &Key128, head: &Head, body: &[u8], out: &mut [u8]) -> Result<usize, CodeDiffers>
@@ -29,7 +29,8 @@ pub fn open(key: &Key128, head: &Head, body: &[u8], out: &mut [u8]) -> Result<us
     ensures opened { IfOk result (λ n. Opens key.now head.now body.now (take n out.new)) }
 
     // The call is answered by Ok wherever an APDU seals to the body, and at most one does.
-    ensures only { (apdu : List ℕ) → Opens key.now head.now body.now apdu → IsOkAnd result (λ n. take n out.new ≡ apdu) }
+    ensures only { (apdu : List ℕ) → Opens key.now head.now body.now apdu
+        → IsOkAnd result (λ n. take n out.new ≡ apdu) }
     ensures differ { IfErr result (λ codes. codes.said ≢ codes.computed) }
     ensures codes { IfErr result (λ codes. AreCodes key.now head.now body.now codes.said codes.computed) }
 
@@ -37,7 +38,8 @@ pub fn open(key: &Key128, head: &Head, body: &[u8], out: &mut [u8]) -> Result<us
     ensures answer { MatchResult result
         (λ n. opened key.now head.now body.now ≡ Some (take n out.new))
         (λ codes. (opened key.now head.now body.now ≡ None)
-        × (codes.said ≡ said_code key.now head.now body.now) × (codes.computed ≡ computed_code key.now head.now body.now)) }
+        × (codes.said ≡ said_code key.now head.now body.now) × (codes.computed
+        ≡ computed_code key.now head.now body.now)) }
     ensures zeros { IfErr result (λ _. take (length body.now - 4) out.new ≡ replicate (length body.now - 4) 0) }
     ensures rest { drop (length body.now - 4) out.new ≡ drop (length body.now - 4) out.old }
 {

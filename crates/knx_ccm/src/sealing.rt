@@ -8,8 +8,8 @@ use aes_modes::Key128;
 /// The most octets of an APDU that is sealed.
 pub(crate) const MOST_APDU: usize = 242;
 
-/// Writes an APDU of at most 242 octets as it stands on the wire, and its code of four octets after it, and answers their length (the
-/// sealing of docs/RULES.md).
+/// Writes an APDU of at most 242 octets as it stands on the wire, and its code of four octets after it, and answers
+/// their length (the sealing of docs/RULES.md).
 pub fn seal(key: &Key128, head: &Head, apdu: &[u8], out: &mut [u8]) -> usize
     requires algorithm { algorithm head.now ≤ 1 }
     requires short { length apdu.now ≤ 242 }

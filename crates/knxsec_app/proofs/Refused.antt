@@ -8,13 +8,19 @@ use Rattle.knxsec_app.specs.declared.status.Status.TheVariants as status
 use Rattle.knxsec_app.specs.Answer.{Answers, after}
 use Rattle.knxsec_app.specs.Refusing.{refused}
 
-pub refused_as : (file reason line : List ℕ) (ended : Status) (old new : Option (List ℕ)) → line ≡ (refused file reason).report
-    → Answers (record { report = line; status = status.Refused }) ended old new → Answers (refused file reason) ended old new
-refused_as file reason line ended old new is said = subst (λ text. Answers (record { report = text; status = status.Refused }) ended old new) is said
+pub refused_as : (file reason line : List ℕ) (ended : Status) (old new : Option (List ℕ))
+    → line ≡ (refused file reason).report
+    → Answers (record { report = line; status = status.Refused }) ended old new
+    → Answers (refused file reason) ended old new
+refused_as file reason line ended old new is said =
+    subst (λ text. Answers (record { report = text; status = status.Refused }) ended old new) is said
 
-pub refused_after : (held file reason line : List ℕ) (ended : Status) (old new : Option (List ℕ)) → line ≡ (refused file reason).report
-    → Answers (after held (record { report = line; status = status.Refused })) ended old new → Answers (after held (refused file reason)) ended old new
-refused_after held file reason line ended old new is said = subst (λ text. Answers (after held (record { report = text; status = status.Refused })) ended old new) is said
+pub refused_after : (held file reason line : List ℕ) (ended : Status) (old new : Option (List ℕ))
+    → line ≡ (refused file reason).report
+    → Answers (after held (record { report = line; status = status.Refused })) ended old new
+    → Answers (after held (refused file reason)) ended old new
+refused_after held file reason line ended old new is said =
+    subst (λ text. Answers (after held (record { report = text; status = status.Refused })) ended old new) is said
 
 pub name_short : (attribute : Attribute) → length (name_of attribute) ≤ 20
 name_short Created = grind (arith)

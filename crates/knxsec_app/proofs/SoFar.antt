@@ -29,20 +29,24 @@ use Rattle.knxsec_app.specs.Ends.{ReadsToEnd}
 use Rattle.knxsec_app.specs.Refusing.{refused, frames_reason, EndsList}
 use Rattle.knxsec_app.proofs.Answering.{answers_after, prefix_more}
 
-pub record SoFar (start now : Seen) (rows : List Row) (audit : AuditState) (records : ReaderState) (held : List ℕ) (old new : Option (List ℕ)) : Type 0 where
+pub record SoFar (start now : Seen) (rows : List Row) (audit : AuditState) (records : ReaderState) (held : List ℕ)
+    (old new : Option (List ℕ)) : Type 0 where
   pub past : List (List ℕ)
   pub knows : Knows audit past
   pub rows_are : audit.rows ≡ rows
   pub front : List ℕ
   pub printed : new ≡ append_known old front
-  pub left_is : WhereTold start (λ octets. frames_answer rows [] (records_of octets) ≡ after (front ++ held) (frames_answer rows past (left now records octets)))
+  pub left_is : WhereTold start (λ octets. frames_answer rows [] (records_of octets)
+      ≡ after (front ++ held) (frames_answer rows past (left now records octets)))
 
 after_nil : (answer : Answer) → after [] answer ≡ answer
 after_nil answer = refl
 
 -- nothing was read
-pub begins : (start : Seen) (rows : List Row) (audit : AuditState) (records : ReaderState) (held : List ℕ) (out : Option (List ℕ))
-    → start.place ≡ 0 → Knows audit [] → audit.rows ≡ rows → records ≡ record { lines = 0; given = 0; held = []; octets = [] } → held ≡ []
+pub begins : (start : Seen) (rows : List Row) (audit : AuditState) (records : ReaderState) (held : List ℕ)
+    (out : Option (List ℕ))
+    → start.place ≡ 0 → Knows audit [] → audit.rows ≡ rows → records
+    ≡ record { lines = 0; given = 0; held = []; octets = [] } → held ≡ []
     → SoFar start start rows audit records held out out
 begins start rows audit records held out at_start knows rows_are none empty = record {
   past = [];
@@ -51,13 +55,15 @@ begins start rows audit records held out at_start knows rows_are none empty = re
   front = [];
   printed = sym (append_known-nil out);
   left_is = λ octets has.
-      ap (λ place. frames_answer rows [] (left (record start { place = place }) (record { lines = 0; given = 0; held = []; octets = [] }) octets)) (sym at_start)
+      ap (λ place. frames_answer rows [] (left (record start { place = place })
+      (record { lines = 0; given = 0; held = []; octets = [] }) octets)) (sym at_start)
       ∙ (λ i. after (sym empty i) (frames_answer rows [] (left start (sym none i) octets)));
 }
 
 -- the answer to a list with one record more
 one_more : (rows : List Row) (past : List (List ℕ)) (octets : List ℕ) (list : RecordList)
-    → frames_answer rows past (with_record octets list) ≡ after (record_line rows past octets) (frames_answer rows (octets ∷ past) list)
+    → frames_answer rows past (with_record octets list) ≡ after (record_line rows past octets)
+    (frames_answer rows (octets ∷ past) list)
 unfolding frames_answer
 one_more rows past octets list = refl
 
@@ -66,10 +72,12 @@ regrouped : (front held line handed kept : List ℕ) → handed ++ kept ≡ held
     → after (front ++ held) (after line answer) ≡ after ((front ++ handed) ++ kept) answer
 regrouped front held line handed kept same answer = ap (λ text. record { report = text; status = answer.status })
     (sym (append_assoc (front ++ held) line answer.report)
-    ∙ ap (λ text. text ++ answer.report) (append_assoc front held line ∙ ap (λ rest. front ++ rest) (sym same) ∙ sym (append_assoc front handed kept)))
+    ∙ ap (λ text. text ++ answer.report) (append_assoc front held line ∙ ap (λ rest. front ++ rest) (sym same)
+    ∙ sym (append_assoc front handed kept)))
 
 -- one more record was taken, and its line passed on
-pub goes_on : (start now later : Seen) (rows : List Row) (audit next : AuditState) (records following : ReaderState) (held kept : List ℕ)
+pub goes_on : (start now later : Seen) (rows : List Row) (audit next : AuditState) (records following : ReaderState)
+    (held kept : List ℕ)
     (old mid new : Option (List ℕ)) (octets apdu : List ℕ) (time : Option ℤ) (line : Line)
     → SoFar start now rows audit records held old mid
     → GoesOn start now [] records.held 0
@@ -80,38 +88,48 @@ pub goes_on : (start now later : Seen) (rows : List Row) (audit next : AuditStat
     → time ≡ None
     → (handed : List ℕ) × (new ≡ append_known mid handed) × (handed ++ kept ≡ held ++ line_text line time apdu)
     → SoFar start later rows next following kept old new
-goes_on start now later rows audit next records following held kept old mid new octets apdu time line so_far goes taken knows rows_stay opened untimed passed =
+goes_on start now later rows audit next records following held kept old mid new octets apdu time line so_far goes taken
+    knows rows_stay opened untimed passed =
     let told = knows so_far.past so_far.knows in
     let is_line : line_text line time apdu ≡ record_line rows so_far.past octets =
-    (λ i. line_text (told.0 i) (untimed i) (opened so_far.past so_far.knows i)) ∙ ap (λ rows. record_line rows so_far.past octets) so_far.rows_are in
+    (λ i. line_text (told.0 i) (untimed i) (opened so_far.past so_far.knows i))
+    ∙ ap (λ rows. record_line rows so_far.past octets) so_far.rows_are in
     record {
       past = octets ∷ so_far.past;
       knows = told.1;
       rows_are = rows_stay ∙ so_far.rows_are;
       front = so_far.front ++ passed.0;
-      printed = passed.1 ∙ ap (λ known. append_known known passed.0) so_far.printed ∙ append_known-append old so_far.front passed.0;
+      printed = passed.1 ∙ ap (λ known. append_known known passed.0) so_far.printed
+          ∙ append_known-append old so_far.front passed.0;
       left_is = λ all has.
           so_far.left_is all has
-          ∙ ap (λ list. after (so_far.front ++ held) (frames_answer rows so_far.past list)) (taken all (has_same start now [] records.held 0 goes all has))
+          ∙ ap (λ list. after (so_far.front ++ held) (frames_answer rows so_far.past list))
+          (taken all (has_same start now [] records.held 0 goes all has))
           ∙ ap (after (so_far.front ++ held)) (one_more rows so_far.past octets (left later following all))
-          ∙ regrouped so_far.front held (record_line rows so_far.past octets) passed.0 kept (passed.2 ∙ ap (λ text. held ++ text) is_line) (frames_answer rows (octets ∷ so_far.past) (left later following all));
+          ∙ regrouped so_far.front held (record_line rows so_far.past octets) passed.0 kept
+          (passed.2 ∙ ap (λ text. held ++ text) is_line) (frames_answer rows (octets ∷ so_far.past)
+          (left later following all));
     }
 
 -- ---- the ends
 
 -- what was written on, of what waits and the answer to what is left, is of the whole answer
-pub answers_all : (start now : Seen) (rows : List Row) (audit : AuditState) (records : ReaderState) (held : List ℕ) (old mid new : Option (List ℕ)) (status : Status)
+pub answers_all : (start now : Seen) (rows : List Row) (audit : AuditState) (records : ReaderState) (held : List ℕ)
+    (old mid new : Option (List ℕ)) (status : Status)
     → (so_far : SoFar start now rows audit records held old mid) → (octets : List ℕ) → CurrentHas start octets
     → Answers (after held (frames_answer rows so_far.past (left now records octets))) status mid new
     → Answers (frames_answer rows [] (records_of octets)) status old new
 answers_all start now rows audit records held old mid new status so_far octets has said =
     let answer = frames_answer rows so_far.past (left now records octets) in
     let whole : after so_far.front (after held answer) ≡ frames_answer rows [] (records_of octets)
-    = ap (λ text. record { report = text; status = answer.status }) (sym (append_assoc so_far.front held answer.report)) ∙ sym (so_far.left_is octets has) in
-    subst (λ a. Answers a status old new) whole (answers_after old mid new so_far.front (after held answer) status so_far.printed said)
+    = ap (λ text. record { report = text; status = answer.status }) (sym (append_assoc so_far.front held answer.report))
+    ∙ sym (so_far.left_is octets has) in
+    subst (λ a. Answers a status old new) whole (answers_after old mid new so_far.front (after held answer) status
+    so_far.printed said)
 
 -- the report could not go on
-pub stops : (start now : Seen) (rows : List Row) (audit : AuditState) (records : ReaderState) (held : List ℕ) (old mid new : Option (List ℕ))
+pub stops : (start now : Seen) (rows : List Row) (audit : AuditState) (records : ReaderState) (held : List ℕ)
+    (old mid new : Option (List ℕ))
     → SoFar start now rows audit records held old mid → AppendsPrefix mid new held
     → WhereTold start (λ octets. AppendsPrefix old new (frames_answer rows [] (records_of octets)).report)
 stops start now rows audit records held old mid new so_far begun octets has =
@@ -119,14 +137,17 @@ stops start now rows audit records held old mid new so_far begun octets has =
     (prefix_more mid new held (frames_answer rows so_far.past (left now records octets)).report begun)
 
 -- memory was wanting, and what waited was handed on, unless the sink failed
-pub wants_memory : (start now : Seen) (rows : List Row) (audit : AuditState) (records : ReaderState) (held : List ℕ) (old mid new : Option (List ℕ)) (status : Status)
-    → SoFar start now rows audit records held old mid → Answers (record { report = held; status = NoMemory }) status mid new
+pub wants_memory : (start now : Seen) (rows : List Row) (audit : AuditState) (records : ReaderState) (held : List ℕ)
+    (old mid new : Option (List ℕ)) (status : Status)
+    → SoFar start now rows audit records held old mid → Answers (record { report = held; status = NoMemory }) status mid
+    new
     → WhereTold start (λ octets. Answers (frames_answer rows [] (records_of octets)) status old new)
 wants_memory start now rows audit records held old mid new status so_far said octets has = by_status status said where
   begun : AppendsPrefix mid new held → AppendsPrefix old new (frames_answer rows [] (records_of octets)).report
   begun part = stops start now rows audit records held old mid new so_far part octets has
 
-  by_status : (status : Status) → Answers (record { report = held; status = NoMemory }) status mid new → Answers (frames_answer rows [] (records_of octets)) status old new
+  by_status : (status : Status) → Answers (record { report = held; status = NoMemory }) status mid new
+      → Answers (frames_answer rows [] (records_of octets)) status old new
   by_status Done said = absurd cc
   by_status Alarm said = absurd cc
   by_status Usage said = absurd cc
@@ -136,7 +157,8 @@ wants_memory start now rows audit records held old mid new status so_far said oc
   by_status NoMemory said = begun said
 
 -- the sink failed at the line of one more record
-pub stops_at_line : (start now later : Seen) (rows : List Row) (audit next : AuditState) (records following : ReaderState) (held : List ℕ)
+pub stops_at_line : (start now later : Seen) (rows : List Row) (audit next : AuditState)
+    (records following : ReaderState) (held : List ℕ)
     (old mid new : Option (List ℕ)) (octets apdu : List ℕ) (time : Option ℤ) (line : Line)
     → SoFar start now rows audit records held old mid
     → GoesOn start now [] records.held 0
@@ -146,34 +168,45 @@ pub stops_at_line : (start now later : Seen) (rows : List Row) (audit next : Aud
     → time ≡ None
     → AppendsPrefix mid new (held ++ line_text line time apdu)
     → WhereTold start (λ all. AppendsPrefix old new (frames_answer rows [] (records_of all)).report)
-stops_at_line start now later rows audit next records following held old mid new octets apdu time line so_far goes taken knows opened untimed begun all has =
+stops_at_line start now later rows audit next records following held old mid new octets apdu time line so_far goes taken
+    knows opened untimed begun all has =
     let told = knows so_far.past so_far.knows in
     let is_line : line_text line time apdu ≡ record_line rows so_far.past octets =
-    (λ i. line_text (told.0 i) (untimed i) (opened so_far.past so_far.knows i)) ∙ ap (λ rows. record_line rows so_far.past octets) so_far.rows_are in
+    (λ i. line_text (told.0 i) (untimed i) (opened so_far.past so_far.knows i))
+    ∙ ap (λ rows. record_line rows so_far.past octets) so_far.rows_are in
     let rest = frames_answer rows (octets ∷ so_far.past) (left later following all) in
-    let is_left : frames_answer rows so_far.past (left now records all) ≡ after (record_line rows so_far.past octets) rest =
-    ap (frames_answer rows so_far.past) (taken all (has_same start now [] records.held 0 goes all has)) ∙ one_more rows so_far.past octets (left later following all) in
-    let text : (held ++ line_text line time apdu) ++ rest.report ≡ held ++ (frames_answer rows so_far.past (left now records all)).report =
-    append_assoc held (line_text line time apdu) rest.report ∙ ap (λ text. held ++ (text ++ rest.report)) is_line ∙ ap (λ answer. held ++ answer.report) (sym is_left) in
+    let is_left : frames_answer rows so_far.past (left now records all)
+    ≡ after (record_line rows so_far.past octets) rest =
+    ap (frames_answer rows so_far.past) (taken all (has_same start now [] records.held 0 goes all has))
+    ∙ one_more rows so_far.past octets (left later following all) in
+    let text : (held ++ line_text line time apdu) ++ rest.report ≡ held
+    ++ (frames_answer rows so_far.past (left now records all)).report =
+    append_assoc held (line_text line time apdu) rest.report ∙ ap (λ text. held ++ (text ++ rest.report)) is_line
+    ∙ ap (λ answer. held ++ answer.report) (sym is_left) in
     answers_all start now rows audit records held old mid new WriteFault so_far all has
     (subst (AppendsPrefix mid new) text (prefix_more mid new (held ++ line_text line time apdu) rest.report begun))
 
-none_left : (rows : List Row) (past : List (List ℕ)) → frames_answer rows past no_records ≡ record { report = total_text (total_of rows past); status = total_status (total_of rows past) }
+none_left : (rows : List Row) (past : List (List ℕ)) → frames_answer rows past no_records
+    ≡ record { report = total_text (total_of rows past); status = total_status (total_of rows past) }
 unfolding frames_answer
 none_left rows past = refl
 
-fault_left : (rows : List Row) (past : List (List ℕ)) (fault : RecordFault) → frames_answer rows past (refused_by fault) ≡ refused (codes "frames") (frames_reason fault)
+fault_left : (rows : List Row) (past : List (List ℕ)) (fault : RecordFault)
+    → frames_answer rows past (refused_by fault) ≡ refused (codes "frames") (frames_reason fault)
 unfolding frames_answer
 fault_left rows past fault = refl
 
 -- the report was ended with the total
-pub finishes : (start now : Seen) (rows : List Row) (audit : AuditState) (records : ReaderState) (held : List ℕ) (old mid new : Option (List ℕ)) (status : Status)
+pub finishes : (start now : Seen) (rows : List Row) (audit : AuditState) (records : ReaderState) (held : List ℕ)
+    (old mid new : Option (List ℕ)) (status : Status)
     → SoFar start now rows audit records held old mid → GoesOn start now [] records.held 0
     → WhereTold now (λ all. left now records all ≡ no_records)
-    → Answers (after held (record { report = total_text audit.total; status = total_status audit.total })) status mid new
+    → Answers (after held (record { report = total_text audit.total; status = total_status audit.total })) status mid
+    new
     → WhereTold start (λ all. Answers (frames_answer rows [] (records_of all)) status old new)
 finishes start now rows audit records held old mid new status so_far goes none said all has =
-    let total : audit.total ≡ total_of rows so_far.past = so_far.knows.total ∙ ap (λ rows. total_of rows so_far.past) so_far.rows_are in
+    let total : audit.total ≡ total_of rows so_far.past =
+    so_far.knows.total ∙ ap (λ rows. total_of rows so_far.past) so_far.rows_are in
     answers_all start now rows audit records held old mid new status so_far all has
     (subst (λ answer. Answers (after held answer) status mid new)
     (ap (λ t. record { report = total_text t; status = total_status t }) total ∙ sym (none_left rows so_far.past)
@@ -181,16 +214,19 @@ finishes start now rows audit records held old mid new status so_far goes none s
     said)
 
 -- the report was ended with a refusal, or the reader stopped
-pub refuses : (start now later : Seen) (rows : List Row) (audit : AuditState) (records : ReaderState) (held : List ℕ) (old mid new : Option (List ℕ)) (status : Status) (fault : RecordFault)
+pub refuses : (start now later : Seen) (rows : List Row) (audit : AuditState) (records : ReaderState) (held : List ℕ)
+    (old mid new : Option (List ℕ)) (status : Status) (fault : RecordFault)
     → SoFar start now rows audit records held old mid → GoesOn start now [] records.held 0
     → Refuses now later records fault → EndsList fault held status mid new
     → WhereTold start (λ all. Answers (frames_answer rows [] (records_of all)) status old new)
 refuses start now later rows audit records held old mid new status fault so_far goes = by_fault fault where
   at_text : (fault : RecordFault) → WhereTold now (λ all. left now records all ≡ refused_by fault)
-      → Answers (after held (refused (codes "frames") (frames_reason fault))) status mid new → WhereTold start (λ all. Answers (frames_answer rows [] (records_of all)) status old new)
+      → Answers (after held (refused (codes "frames") (frames_reason fault))) status mid new
+      → WhereTold start (λ all. Answers (frames_answer rows [] (records_of all)) status old new)
   at_text fault is said all has = answers_all start now rows audit records held old mid new status so_far all has
       (subst (λ answer. Answers (after held answer) status mid new)
-      (sym (fault_left rows so_far.past fault) ∙ ap (frames_answer rows so_far.past) (sym (is all (has_same start now [] records.held 0 goes all has))))
+      (sym (fault_left rows so_far.past fault) ∙ ap (frames_answer rows so_far.past)
+      (sym (is all (has_same start now [] records.held 0 goes all has))))
       said)
 
   by_fault : (fault : RecordFault) → Refuses now later records fault → EndsList fault held status mid new
@@ -198,18 +234,22 @@ refuses start now later rows audit records held old mid new status fault so_far 
   by_fault (fault_.Line number cause) is said = at_text (fault_.Line number cause) is said
   by_fault (fault_.LongLine number) is said = at_text (fault_.LongLine number) is said
   by_fault (fault_.TooMany number) is said = at_text (fault_.TooMany number) is said
-  by_fault fault_.ReadFault is said = λ all has. subst (λ s. Answers (frames_answer rows [] (records_of all)) s old new) (sym said.0) (stops start now rows audit records held old mid new so_far said.1 all has)
-  by_fault fault_.NoMemory is said = λ all has. wants_memory start now rows audit records held old mid new status so_far said all has
+  by_fault fault_.ReadFault is said = λ all has. subst (λ s. Answers (frames_answer rows [] (records_of all)) s old new)
+      (sym said.0) (stops start now rows audit records held old mid new so_far said.1 all has)
+  by_fault fault_.NoMemory is said =
+      λ all has. wants_memory start now rows audit records held old mid new status so_far said all has
 
 -- the file was read to its end
-pub reads_to_end : (start now later : Seen) (held kept : List ℕ) → start.place ≡ 0 → GoesOn start now [] held 0 → GoesOn now later held kept 0
+pub reads_to_end : (start now later : Seen) (held kept : List ℕ) → start.place ≡ 0 → GoesOn start now [] held 0
+    → GoesOn now later held kept 0
     → WhereTold now (λ all. drop later.place all ≡ []) → ReadsToEnd start later
 reads_to_end start now later held kept at_start first then_ whole =
     let goes = goes_then start now later [] held kept 0 0 first then_ in
     record {
       end = λ all has.
           let within = goes.within all has (omega (arith, at_start)) in
-          let none : length all - later.place ≡ 0 = sym (length-drop later.place all) ∙ ap length (whole all (has_same start now [] held 0 first all has)) in
+          let none : length all - later.place ≡ 0 =
+          sym (length-drop later.place all) ∙ ap length (whole all (has_same start now [] held 0 first all has)) in
           omega (arith, within, none);
       placed = goes.placed;
       others = goes.others;
@@ -217,30 +257,39 @@ reads_to_end start now later held kept at_start first then_ whole =
 
 -- ---- what a call for the next record gave
 
-pub some_given : (seen later : Seen) (old new : RecordsState) (result : Result (Option Record) RecordFault) (found : Option Record) (given : Record)
-    → result ≡ Ok found → found ≡ Some given → Gives seen later old new result → TakesRecord seen later old new given.number given.octets.now × (given.time ≡ None)
-some_given seen later old new result found given is some gives = subst (Gives seen later old new) (is ∙ ap Ok some) gives
+pub some_given : (seen later : Seen) (old new : RecordsState) (result : Result (Option Record) RecordFault)
+    (found : Option Record) (given : Record)
+    → result ≡ Ok found → found ≡ Some given → Gives seen later old new result
+    → TakesRecord seen later old new given.number given.octets.now × (given.time ≡ None)
+some_given seen later old new result found given is some gives =
+    subst (Gives seen later old new) (is ∙ ap Ok some) gives
 
-pub none_given : (seen later : Seen) (old new : RecordsState) (result : Result (Option Record) RecordFault) (found : Option Record)
+pub none_given : (seen later : Seen) (old new : RecordsState) (result : Result (Option Record) RecordFault)
+    (found : Option Record)
     → result ≡ Ok found → found ≡ None → Gives seen later old new result → Ends seen later old new
 none_given seen later old new result found is none gives = subst (Gives seen later old new) (is ∙ ap Ok none) gives
 
-pub fault_given : (seen later : Seen) (old new : RecordsState) (result : Result (Option Record) RecordFault) (fault : RecordFault)
+pub fault_given : (seen later : Seen) (old new : RecordsState) (result : Result (Option Record) RecordFault)
+    (fault : RecordFault)
     → result ≡ Err fault → old.fault ≡ None → Gives seen later old new result → Refuses seen later old.reader fault
-fault_given seen later old new result fault is no_fault gives = cause (subst (Gives seen later old new) is gives).cause where
-  cause : ((old.fault ≡ Some fault) ⊎ ((old.fault ≡ None) × Refuses seen later old.reader fault)) → Refuses seen later old.reader fault
-  cause (inl before) = elim (none-some fault (sym no_fault ∙ before)) [ ]
-  cause (inr said) = said.1
+fault_given seen later old new result fault is no_fault gives =
+    cause (subst (Gives seen later old new) is gives).cause where
+      cause : ((old.fault ≡ Some fault) ⊎ ((old.fault ≡ None) × Refuses seen later old.reader fault))
+          → Refuses seen later old.reader fault
+      cause (inl before) = elim (none-some fault (sym no_fault ∙ before)) [ ]
+      cause (inr said) = said.1
 
 -- whatever was given, the files tell the same
-pub gives_told : (seen later : Seen) (old new : RecordsState) (result : Result (Option Record) RecordFault) → old.fault ≡ None → Gives seen later old new result
+pub gives_told : (seen later : Seen) (old new : RecordsState) (result : Result (Option Record) RecordFault)
+    → old.fault ≡ None → Gives seen later old new result
     → later.told ≡ seen.told
 gives_told seen later old new (Ok (Some given)) no_fault gives = gives.0.gives.goes.told
 gives_told seen later old new (Ok None) no_fault gives = gives.ends.goes.told
 gives_told seen later old new (Err fault) no_fault gives = (gives.first no_fault).told
 
 -- the first of the records that were left is the one that was given
-pub first_left : (seen later : Seen) (old new : RecordsState) (number : ℕ) (octets : List ℕ) → TakesRecord seen later old new number octets
+pub first_left : (seen later : Seen) (old new : RecordsState) (number : ℕ) (octets : List ℕ)
+    → TakesRecord seen later old new number octets
     → WhereTold seen (λ all. left seen old.reader all ≡ with_record octets (left later new.reader all))
 first_left seen later old new number octets takes = λ all has.
     takes.gives.left_is all has ∙ ap (λ first. with_record first (left later new.reader all)) (sym takes.octets_is)

@@ -16,9 +16,11 @@ some_of (Some octets) some = refl
 some_of None some = absurd cc
 
 -- a file that is there has these octets
-pub holds_there : (seen : Seen) (told : List File) (name : List ℕ) → seen.told ≡ Some told → IsThere told name → Holds seen name (octets_in told name)
+pub holds_there : (seen : Seen) (told : List File) (name : List ℕ) → seen.told ≡ Some told → IsThere told name
+    → Holds seen name (octets_in told name)
 holds_there seen told name is there =
-    subst (λ (files : Option (List File)). IsSomeAnd files (λ f. octets_named f name ≡ Some (octets_in told name))) (sym is) (some_of (octets_named told name) there)
+    subst (λ (files : Option (List File)). IsSomeAnd files (λ f. octets_named f name ≡ Some (octets_in told name)))
+    (sym is) (some_of (octets_named told name) there)
 
 not_over : (most found : ℕ) → found ≤ most → nat_lt most found ≡ false
 not_over most found fits = grind (arith, nat_tests, fits)
@@ -30,15 +32,22 @@ abbrev by_length : WholeFile → List ℕ → Bool → Result (List ℕ) Answer
 by_length file octets over = if over then Err (refused (word_of file) (codes " long")) else Ok octets
 
 -- the whole of a file within its limit
-pub text_within : (file : WholeFile) (most : ℕ) (octets : List ℕ) (place : ℕ) (found : Option (Vec ℕ Global)) (text : Vec ℕ Global) → most ≡ most_of file → found ≡ Some text
-    → ReadsWhole most octets place (option_map (λ t. t.items) found) → (within file octets ≡ Ok text.items) × (place ≡ length octets)
+pub text_within : (file : WholeFile) (most : ℕ) (octets : List ℕ) (place : ℕ) (found : Option (Vec ℕ Global))
+    (text : Vec ℕ Global) → most ≡ most_of file → found ≡ Some text
+    → ReadsWhole most octets place (option_map (λ t. t.items) found) → (within file octets ≡ Ok text.items)
+    × (place ≡ length octets)
 text_within file most octets place found text is_most is reads =
-    let read : ReadsWhole (most_of file) octets place (Some text.items) = subst (λ m. ReadsWhole m octets place (Some text.items)) is_most (subst (λ f. ReadsWhole most octets place (option_map (λ t. t.items) f)) is reads) in
+    let read : ReadsWhole (most_of file) octets place (Some text.items) =
+    subst (λ m. ReadsWhole m octets place (Some text.items)) is_most
+    (subst (λ f. ReadsWhole most octets place (option_map (λ t. t.items) f)) is reads) in
     (ap (by_length file octets) (not_over (most_of file) (length octets) read.1) ∙ ap Ok (sym read.0), read.2)
 
 -- a file past it
-pub text_past : (file : WholeFile) (most : ℕ) (octets : List ℕ) (place : ℕ) (found : Option (Vec ℕ Global)) → most ≡ most_of file → found ≡ None
-    → ReadsWhole most octets place (option_map (λ t. t.items) found) → within file octets ≡ Err (refused (word_of file) (codes " long"))
+pub text_past : (file : WholeFile) (most : ℕ) (octets : List ℕ) (place : ℕ) (found : Option (Vec ℕ Global))
+    → most ≡ most_of file → found ≡ None
+    → ReadsWhole most octets place (option_map (λ t. t.items) found)
+    → within file octets ≡ Err (refused (word_of file) (codes " long"))
 text_past file most octets place found is_most is reads =
-    let more : most_of file < length octets = subst (λ m. m < length octets) is_most (subst (λ f. ReadsWhole most octets place (option_map (λ t. t.items) f)) is reads) in
+    let more : most_of file < length octets = subst (λ m. m < length octets) is_most
+    (subst (λ f. ReadsWhole most octets place (option_map (λ t. t.items) f)) is reads) in
     ap (by_length file octets) (is_over (most_of file) (length octets) more)

@@ -10,7 +10,8 @@ use Rattle.knxsec_app.specs.Words.{Asked, Open, Audit, AuditKeyring}
 abbrev pub asked_of : Command → Asked
 asked_of (command.Open key frame) = Open key frame
 asked_of (command.Audit tables frames) = Audit tables.now frames.now
-asked_of (command.AuditKeyring names) = AuditKeyring names.keyring.now names.password.now names.tables.now names.frames.now
+asked_of (command.AuditKeyring names) =
+    AuditKeyring names.keyring.now names.password.now names.tables.now names.frames.now
 
 -- the rows that are lent, where there are any
 abbrev pub rows_of : Option (Bor (List Row)) → Option (List Row)

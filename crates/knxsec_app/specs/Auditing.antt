@@ -37,7 +37,8 @@ most_of Password = 4096
 
 -- the octets of the file, unless they are more than it may have
 abbrev pub within : WholeFile → List ℕ → Result (List ℕ) Answer
-within file octets = if nat_lt (most_of file) (length octets) then Err (refused (word_of file) (codes " long")) else Ok octets
+within file octets =
+    if nat_lt (most_of file) (length octets) then Err (refused (word_of file) (codes " long")) else Ok octets
 
 -- the status where it could not be read
 abbrev pub unread_status : FileFault → Status
@@ -83,13 +84,15 @@ total_status total = if total.alarms == 0 then Done else Alarm
 
 -- what is answered where no record is left
 abbrev pub last_answer : List Row → List (List ℕ) → Option RecordFault → Answer
-last_answer rows past None = record { report = total_text (total_of rows past); status = total_status (total_of rows past) }
+last_answer rows past None =
+    record { report = total_text (total_of rows past); status = total_status (total_of rows past) }
 last_answer rows past (Some fault) = refused (codes "frames") (frames_reason fault)
 
 -- the lines of these records after those, and then the total or the refusal
 abbrev pub records_answer : List Row → List (List ℕ) → List (List ℕ) → Option RecordFault → Answer
 records_answer rows past [] fault = last_answer rows past fault
-records_answer rows past (octets ∷ records) fault = after (record_line rows past octets) (records_answer rows (octets ∷ past) records fault)
+records_answer rows past (octets ∷ records) fault =
+    after (record_line rows past octets) (records_answer rows (octets ∷ past) records fault)
 
 unfoldable pub frames_answer : List Row → List (List ℕ) → RecordList → Answer
 frames_answer rows past list = records_answer rows past list.records list.refused
@@ -97,7 +100,8 @@ frames_answer rows past list = records_answer rows past list.records list.refuse
 -- ---- the audit under tables, and under the rows of a keyring where there is one
 
 abbrev pub tables_answer : Option (List Row) → List ℕ → List ℕ → Answer
-tables_answer under tables frames = answer_from (installation under tables) (λ rows. frames_answer rows [] (records_of frames))
+tables_answer under tables frames =
+    answer_from (installation under tables) (λ rows. frames_answer rows [] (records_of frames))
 
 -- the answer of an audit of the second file under the first
 abbrev pub audit_answer : List ℕ → List ℕ → Answer
@@ -126,4 +130,5 @@ keyring_rows keyring password = do
 
 -- the answer of an audit under a keyring, its password and tables
 abbrev pub keyring_answer : List ℕ → List ℕ → List ℕ → List ℕ → Answer
-keyring_answer keyring password tables frames = answer_from (keyring_rows keyring password) (λ under. tables_answer (Some under) tables frames)
+keyring_answer keyring password tables frames =
+    answer_from (keyring_rows keyring password) (λ under. tables_answer (Some under) tables frames)

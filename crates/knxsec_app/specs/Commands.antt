@@ -33,7 +33,8 @@ answer_to None files = record { report = usage_line; status = Usage }
 answer_to (Some (Open key frame)) files = opening_answer (refusal_of key frame) (apdu_of key frame)
 answer_to (Some (Audit tables frames)) files = audit_answer (octets_in files tables) (octets_in files frames)
 answer_to (Some (AuditKeyring keyring password tables frames)) files =
-    keyring_answer (octets_in files keyring) (octets_in files password) (octets_in files tables) (octets_in files frames)
+    keyring_answer (octets_in files keyring) (octets_in files password) (octets_in files tables)
+    (octets_in files frames)
 
 -- the answer to the words, where these are the files
 abbrev pub answer_of : List (List ℕ) → List File → Answer
@@ -84,8 +85,10 @@ AreUnopened (Some (Audit tables frames)) files old new =
     IsErr (installation None (octets_in files tables)) → (other : List ℕ) → other ≢ tables → Stays old new other
 AreUnopened (Some (AuditKeyring keyring password tables frames)) files old new =
     (IsErr (within Keyring (octets_in files keyring)) → (other : List ℕ) → other ≢ keyring → Stays old new other)
-    × (IsErr (keyring_rows (octets_in files keyring) (octets_in files password)) → (other : List ℕ) → other ≢ keyring → other ≢ password → Stays old new other)
-    × ((rows : List Row) → keyring_rows (octets_in files keyring) (octets_in files password) ≡ Ok rows → IsErr (installation (Some rows) (octets_in files tables))
+    × (IsErr (keyring_rows (octets_in files keyring) (octets_in files password)) → (other : List ℕ) → other ≢ keyring
+    → other ≢ password → Stays old new other)
+    × ((rows : List Row) → keyring_rows (octets_in files keyring) (octets_in files password) ≡ Ok rows
+    → IsErr (installation (Some rows) (octets_in files tables))
     → (other : List ℕ) → other ≢ keyring → other ≢ password → other ≢ tables → Stays old new other)
 
 -- the report was written to its end after all files were read

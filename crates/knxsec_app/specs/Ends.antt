@@ -8,8 +8,9 @@ use Rattle.knxsec_app.specs.declared.status.Status.TheVariants.{Done, Usage, Rea
 use Rattle.knxsec_app.specs.Answer.{Answer, Answers}
 use Rattle.knxsec_app.specs.Commands.{IsServed, Stays}
 
--- A fault of reading or of writing is answered only where its count rose, and neither count falls. The files' count rises only where a
--- fault of reading is answered, and the sink's only where one of the two is: all else was answered without a fault.
+-- A fault of reading or of writing is answered only where its count rose, and neither count falls. The files' count
+-- rises only where a fault of reading is answered, and the sink's only where one of the two is: all else was answered
+-- without a fault.
 pub record IsCounted (seen later_seen : Seen) (before now : ℕ) (status : Status) : Type 0 where
   pub read_fault : status ≡ ReadFault → Rose seen.faults later_seen.faults
   pub write_fault : status ≡ WriteFault → Rose before now
@@ -49,7 +50,8 @@ pub record EndsReading (seen later_seen : Seen) (before now : ℕ) (status : Sta
 -- The current file was read from its start to its end, and no other file.
 pub record ReadsToEnd (old new : Seen) : Type 0 where
   pub end : WhereTold old (λ octets. new.place ≡ length octets)
-  pub placed : (name : List ℕ) → old.current ≡ Some name → IsSome old.told → old.places name ≡ old.place → new.places name ≡ new.place
+  pub placed : (name : List ℕ) → old.current ≡ Some name → IsSome old.told → old.places name ≡ old.place
+      → new.places name ≡ new.place
   pub others : (other : List ℕ) → old.current ≢ Some other → new.places other ≡ old.places other
 
 -- ---- a call for a value that the report needs
@@ -59,10 +61,12 @@ abbrev pub status_of : {A : Type 0} → Result A Status → Status
 status_of (Ok value) = Done
 status_of (Err status) = status
 
--- The call stopped with this status: the files or memory failed and nothing was written, or the refusal in the value's place was told.
+-- The call stopped with this status: the files or memory failed and nothing was written, or the refusal in the value's
+-- place was told.
 abbrev pub Stops : {A : Type 0} → Result A Answer → Status → Option (List ℕ) → Option (List ℕ) → Type 0
 Stops expected status old new =
-    ((IsServed status → ⊥) × (new ≡ old)) ⊎ ((refusal : Answer) × (expected ≡ Err refusal) × Answers refusal status old new)
+    ((IsServed status → ⊥) × (new ≡ old)) ⊎ ((refusal : Answer) × (expected ≡ Err refusal)
+    × Answers refusal status old new)
 
 -- no other file was opened or read
 abbrev pub OthersStay : Seen → Seen → List ℕ → Type 0

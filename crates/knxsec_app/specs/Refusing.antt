@@ -60,7 +60,8 @@ keyring_reason (keyring.Tag fault) = document_reason fault
 keyring_reason keyring.NotKeyring = codes " root"
 keyring_reason (keyring.Missing attribute place) = at_place place (codes "missing " ++ name_of attribute)
 keyring_reason (keyring.LongText place) = at_place place (codes "long-text")
-keyring_reason (keyring.Signature stored computed) = codes " signature " ++ stored_text stored ++ 32 ∷ [] ++ encode_lower computed
+keyring_reason (keyring.Signature stored computed) =
+    codes " signature " ++ stored_text stored ++ 32 ∷ [] ++ encode_lower computed
 keyring_reason (keyring.Key place) = at_place place (codes "key")
 keyring_reason (keyring.Address place) = at_place place (codes "address")
 keyring_reason (keyring.Twice place) = at_place place (codes "twice")
@@ -71,15 +72,16 @@ abbrev pub EndsTables : TablesFault → Status → Option (List ℕ) → Option 
 EndsTables tables.NoMemory ended old new = (ended ≡ status.NoMemory) × (new ≡ old)
 EndsTables fault ended old new = Answers (refused (codes "tables") (tables_reason fault)) ended old new
 
--- What is answered where merged rows have this fault: that there are too many, since no two of them say the same; or that memory
--- was wanting.
+-- What is answered where merged rows have this fault: that there are too many, since no two of them say the same; or
+-- that memory was wanting.
 abbrev pub EndsMerged : BuildFault → Status → Option (List ℕ) → Option (List ℕ) → Type 0
 EndsMerged build.NoMemory ended old new = (ended ≡ status.NoMemory) × (new ≡ old)
 EndsMerged fault ended old new = Answers (refused (codes "keyring") (codes " many")) ended old new
 
--- What is answered where the reader of a list of frames ends with this fault: what waited, and then the refusal; or that the
--- files failed; or that memory was wanting, unless the sink did not take what waited.
+-- What is answered where the reader of a list of frames ends with this fault: what waited, and then the refusal; or
+-- that the files failed; or that memory was wanting, unless the sink did not take what waited.
 abbrev pub EndsList : RecordFault → List ℕ → Status → Option (List ℕ) → Option (List ℕ) → Type 0
 EndsList record_.ReadFault held ended old new = (ended ≡ status.ReadFault) × AppendsPrefix old new held
-EndsList record_.NoMemory held ended old new = Answers (record { report = held; status = status.NoMemory }) ended old new
+EndsList record_.NoMemory held ended old new =
+    Answers (record { report = held; status = status.NoMemory }) ended old new
 EndsList fault held ended old new = Answers (after held (refused (codes "frames") (frames_reason fault))) ended old new

@@ -22,8 +22,8 @@ use knx_base::{Files, Sink};
 use secure_apdu::ApduBuf;
 use std::alloc::Global;
 
-/// Judges the records of the file `frames` under the tables of the file `tables`, and under the rows `under` of a keyring where
-/// there is one.
+/// Judges the records of the file `frames` under the tables of the file `tables`, and under the rows `under` of a
+/// keyring where there is one.
 pub(crate) fn audit<F: Files, S: Sink>(
     alloc: Global,
     tables: &str,
@@ -34,13 +34,16 @@ pub(crate) fn audit<F: Files, S: Sink>(
 ) -> Status
     requires there { ForSome (F.seen files.old).told (λ told. IsThere told tables.now × IsThere told frames.now) }
     ensures answer { (told : List File) → (F.seen files.old).told ≡ Some told
-        → Answers (tables_answer (rows_of under.entry) (octets_in told tables.now) (octets_in told frames.now)) result (S.octets out.old) (S.octets out.new) }
+        → Answers (tables_answer (rows_of under.entry) (octets_in told tables.now) (octets_in told frames.now)) result
+        (S.octets out.old) (S.octets out.new) }
     ensures whole { IsWhole result → (told : List File) → (F.seen files.old).told ≡ Some told
         → IsRead told (F.seen files.new) tables.now × IsRead told (F.seen files.new) frames.now }
-    ensures others { IsWhole result → IsSome (F.seen files.old).told → (other : List ℕ) → other ≢ tables.now → other ≢ frames.now
+    ensures others { IsWhole result → IsSome (F.seen files.old).told → (other : List ℕ) → other ≢ tables.now
+        → other ≢ frames.now
         → Stays (F.seen files.old) (F.seen files.new) other }
     ensures unopened { IsServed result → (told : List File) → (F.seen files.old).told ≡ Some told
-        → IsErr (installation (rows_of under.entry) (octets_in told tables.now)) → (other : List ℕ) → other ≢ tables.now → Stays (F.seen files.old) (F.seen files.new) other }
+        → IsErr (installation (rows_of under.entry) (octets_in told tables.now)) → (other : List ℕ) → other ≢ tables.now
+        → Stays (F.seen files.old) (F.seen files.new) other }
     ensures told { (F.seen files.new).told ≡ (F.seen files.old).told }
     ensures ends { EndsReading (F.seen files.old) (F.seen files.new) (S.faults out.old) (S.faults out.new) result }
 {
@@ -61,13 +64,16 @@ fn read_installation<F: Files, S: Sink>(
     requires there { ForSome (F.seen files.old).told (λ told. IsThere told name.now) }
     ensures rows { (told : List File) → (F.seen files.old).told ≡ Some told
         → MatchResult result (λ rows. installation (rows_of under.entry) (octets_in told name.now) ≡ Ok rows)
-        (λ status. Stops (installation (rows_of under.entry) (octets_in told name.now)) status (S.octets out.old) (S.octets out.new)) }
-    ensures read { IsOk result → (told : List File) → (F.seen files.old).told ≡ Some told → IsRead told (F.seen files.new) name.now }
+        (λ status. Stops (installation (rows_of under.entry) (octets_in told name.now)) status (S.octets out.old)
+        (S.octets out.new)) }
+    ensures read { IsOk result → (told : List File) → (F.seen files.old).told ≡ Some told
+        → IsRead told (F.seen files.new) name.now }
     ensures told { (F.seen files.new).told ≡ (F.seen files.old).told }
     ensures others { IsServed (status_of result) → OthersStay (F.seen files.old) (F.seen files.new) name.now }
     ensures unwritten { OnOk result (out.new ≡ out.old) }
     ensures not_whole { IfErr result (λ status. IsWhole status → ⊥) }
-    ensures ends { EndsReading (F.seen files.old) (F.seen files.new) (S.faults out.old) (S.faults out.new) (status_of result) }
+    ensures ends { EndsReading (F.seen files.old) (F.seen files.new) (S.faults out.old) (S.faults out.new)
+        (status_of result) }
 {
     let text = WholeFile::Tables.read(alloc, name, files, out)?;
     rows_in(alloc, &text, under, out)
@@ -121,8 +127,10 @@ fn build(alloc: Global, rows: &[Row]) -> Result<Tables, Status>
 }
 
 fn merge<S: Sink>(alloc: Global, over: &[Row], under: &[Row], out: &mut S) -> Result<Tables, Status>
-    ensures rows { MatchResult result (λ rows. unless_many (build_fault (merged over.now under.now)) (merged over.now under.now) ≡ Ok rows)
-        (λ status. Stops (unless_many (build_fault (merged over.now under.now)) (merged over.now under.now)) status (S.octets out.old) (S.octets out.new)) }
+    ensures rows { MatchResult result (λ rows. unless_many (build_fault (merged over.now under.now))
+        (merged over.now under.now) ≡ Ok rows)
+        (λ status. Stops (unless_many (build_fault (merged over.now under.now)) (merged over.now under.now)) status
+        (S.octets out.old) (S.octets out.new)) }
     ensures unwritten { OnOk result (out.new ≡ out.old) }
     ensures not_whole { IfErr result (λ status. IsWhole status → ⊥) }
     ensures ends { EndsTelling (S.faults out.old) (S.faults out.new) (status_of result) }
@@ -144,7 +152,8 @@ fn audit_frames<F: Files, S: Sink>(
     requires there { ForSome (F.seen files.old).told (λ told. IsThere told frames.now) }
     ensures answer { (octets : List ℕ) → Holds (F.seen files.old) frames.now octets
         → Answers (frames_answer tables [] (records_of octets)) result (S.octets out.old) (S.octets out.new) }
-    ensures whole { IsWhole result → (octets : List ℕ) → Holds (F.seen files.old) frames.now octets → (F.seen files.new).places frames.now ≡ length octets }
+    ensures whole { IsWhole result → (octets : List ℕ) → Holds (F.seen files.old) frames.now octets
+        → (F.seen files.new).places frames.now ≡ length octets }
     ensures others { IsWhole result → OthersStay (F.seen files.old) (F.seen files.new) frames.now }
     ensures told { (F.seen files.new).told ≡ (F.seen files.old).told }
     ensures ends { EndsReading (F.seen files.old) (F.seen files.new) (S.faults out.old) (S.faults out.new) result }
@@ -164,7 +173,8 @@ fn audit_current<F: Files, S: Sink>(
 ) -> Status
     requires current { IsSome (F.seen files.old).current }
     requires start { (F.seen files.old).place ≡ 0 }
-    ensures answer { WhereTold (F.seen files.old) (λ octets. Answers (frames_answer tables [] (records_of octets)) result (S.octets out.old) (S.octets out.new)) }
+    ensures answer { WhereTold (F.seen files.old) (λ octets. Answers (frames_answer tables [] (records_of octets))
+        result (S.octets out.old) (S.octets out.new)) }
     ensures whole { IsWhole result → ReadsToEnd (F.seen files.old) (F.seen files.new) }
     ensures told { (F.seen files.new).told ≡ (F.seen files.old).told }
     ensures ends { EndsReading (F.seen files.old) (F.seen files.new) (S.faults out.old) (S.faults out.new) result }

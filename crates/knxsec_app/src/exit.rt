@@ -9,8 +9,8 @@ use std::process::ExitCode;
 /// The status with which the process ends where its words cannot be had.
 const NO_WORDS: u8 = 7;
 
-/// Ends a command: tells standard error why the report is not whole, where it is not, and answers how the process is to end.
-/// Without a status its words could not be had.
+/// Ends a command: tells standard error why the report is not whole, where it is not, and answers how the process is to
+/// end. Without a status its words could not be had.
 pub fn conclude<R: Eprint>(ended: Option<Status>, host: &R) -> ExitCode
     ensures number { exit_status result ≡ exit_number ended }
 {

@@ -26,16 +26,19 @@ pub(crate) fn audit_by_keyring<F: Files, S: Sink>(
     files: &mut F,
     out: &mut S,
 ) -> Status
-    requires there { ForSome (F.seen files.old).told (λ told. IsThere told names.now.keyring.now × IsThere told names.now.password.now
+    requires there { ForSome (F.seen files.old).told (λ told. IsThere told names.now.keyring.now
+        × IsThere told names.now.password.now
         × IsThere told names.now.tables.now × IsThere told names.now.frames.now) }
     ensures answer { (told : List File) → (F.seen files.old).told ≡ Some told
         → Answers (keyring_answer (octets_in told names.now.keyring.now) (octets_in told names.now.password.now)
-        (octets_in told names.now.tables.now) (octets_in told names.now.frames.now)) result (S.octets out.old) (S.octets out.new) }
+        (octets_in told names.now.tables.now) (octets_in told names.now.frames.now)) result (S.octets out.old)
+        (S.octets out.new) }
     ensures whole { IsWhole result → (told : List File) → (F.seen files.old).told ≡ Some told
         → IsRead told (F.seen files.new) names.now.keyring.now × IsRead told (F.seen files.new) names.now.password.now
         × IsRead told (F.seen files.new) names.now.tables.now × IsRead told (F.seen files.new) names.now.frames.now }
     ensures unopened { IsServed result → (told : List File) → (F.seen files.old).told ≡ Some told
-        → AreUnopened (Some (AuditKeyring names.now.keyring.now names.now.password.now names.now.tables.now names.now.frames.now)) told (F.seen files.old) (F.seen files.new) }
+        → AreUnopened (Some (AuditKeyring names.now.keyring.now names.now.password.now names.now.tables.now
+        names.now.frames.now)) told (F.seen files.old) (F.seen files.new) }
     ensures told { (F.seen files.new).told ≡ (F.seen files.old).told }
     ensures ends { EndsReading (F.seen files.old) (F.seen files.new) (S.faults out.old) (S.faults out.new) result }
 {
@@ -59,20 +62,26 @@ fn open_keyring<F: Files, S: Sink>(
     files: &mut F,
     out: &mut S,
 ) -> Result<Keyring, Status>
-    requires there { ForSome (F.seen files.old).told (λ told. IsThere told names.now.keyring.now × IsThere told names.now.password.now) }
+    requires there { ForSome (F.seen files.old).told (λ told. IsThere told names.now.keyring.now
+        × IsThere told names.now.password.now) }
     ensures rows { (told : List File) → (F.seen files.old).told ≡ Some told
-        → MatchResult result (λ rows. keyring_rows (octets_in told names.now.keyring.now) (octets_in told names.now.password.now) ≡ Ok rows)
-        (λ status. Stops (keyring_rows (octets_in told names.now.keyring.now) (octets_in told names.now.password.now)) status (S.octets out.old) (S.octets out.new)) }
+        → MatchResult result (λ rows. keyring_rows (octets_in told names.now.keyring.now)
+        (octets_in told names.now.password.now) ≡ Ok rows)
+        (λ status. Stops (keyring_rows (octets_in told names.now.keyring.now) (octets_in told names.now.password.now))
+        status (S.octets out.old) (S.octets out.new)) }
     ensures read { IsOk result → (told : List File) → (F.seen files.old).told ≡ Some told
         → IsRead told (F.seen files.new) names.now.keyring.now × IsRead told (F.seen files.new) names.now.password.now }
     ensures told { (F.seen files.new).told ≡ (F.seen files.old).told }
-    ensures others { IsServed (status_of result) → IsSome (F.seen files.old).told → (other : List ℕ) → other ≢ names.now.keyring.now → other ≢ names.now.password.now
+    ensures others { IsServed (status_of result) → IsSome (F.seen files.old).told → (other : List ℕ)
+        → other ≢ names.now.keyring.now → other ≢ names.now.password.now
         → Stays (F.seen files.old) (F.seen files.new) other }
     ensures unopened { IsServed (status_of result) → (told : List File) → (F.seen files.old).told ≡ Some told
-        → IsErr (within WholeFile.Keyring (octets_in told names.now.keyring.now)) → (other : List ℕ) → other ≢ names.now.keyring.now → Stays (F.seen files.old) (F.seen files.new) other }
+        → IsErr (within WholeFile.Keyring (octets_in told names.now.keyring.now)) → (other : List ℕ)
+        → other ≢ names.now.keyring.now → Stays (F.seen files.old) (F.seen files.new) other }
     ensures unwritten { OnOk result (out.new ≡ out.old) }
     ensures not_whole { IfErr result (λ status. IsWhole status → ⊥) }
-    ensures ends { EndsReading (F.seen files.old) (F.seen files.new) (S.faults out.old) (S.faults out.new) (status_of result) }
+    ensures ends { EndsReading (F.seen files.old) (F.seen files.new) (S.faults out.old) (S.faults out.new)
+        (status_of result) }
 {
     let keyring = WholeFile::Keyring.read(alloc, names.keyring, files, out)?;
     let password = WholeFile::Password.read(alloc, names.password, files, out)?;
@@ -86,7 +95,8 @@ fn opened<S: Sink>(
     out: &mut S,
 ) -> Result<Keyring, Status>
     ensures rows { MatchResult result (λ rows. keyring_told (keyring_of keyring.now password.now) ≡ Ok rows)
-        (λ status. Stops (keyring_told (keyring_of keyring.now password.now)) status (S.octets out.old) (S.octets out.new)) }
+        (λ status. Stops (keyring_told (keyring_of keyring.now password.now)) status (S.octets out.old)
+        (S.octets out.new)) }
     ensures unwritten { OnOk result (out.new ≡ out.old) }
     ensures not_whole { IfErr result (λ status. IsWhole status → ⊥) }
     ensures ends { EndsTelling (S.faults out.old) (S.faults out.new) (status_of result) }

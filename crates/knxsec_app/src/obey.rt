@@ -27,7 +27,8 @@ pub(crate) fn obey<F: Files, S: Sink>(
         → Answers (answer_to (Some (asked_of command.now)) told) result (S.octets out.old) (S.octets out.new) }
     ensures whole { IsWhole result → (told : List File) → AreFiles (Some (asked_of command.now)) (F.seen files.old) told
         → AreRead (Some (asked_of command.now)) told (F.seen files.new) }
-    ensures unopened { IsServed result → (told : List File) → AreFiles (Some (asked_of command.now)) (F.seen files.old) told
+    ensures unopened { IsServed result → (told : List File) → AreFiles (Some (asked_of command.now)) (F.seen files.old)
+        told
         → AreUnopened (Some (asked_of command.now)) told (F.seen files.old) (F.seen files.new) }
     ensures told { (F.seen files.new).told ≡ (F.seen files.old).told }
     ensures ends { EndsReading (F.seen files.old) (F.seen files.new) (S.faults out.old) (S.faults out.new) result }

@@ -14,7 +14,8 @@ use tag_text::TagFault;
 
 /// Says why a file is refused.
 pub(crate) fn refuse<S: Sink>(line: &LineBuf, out: &mut S) -> Status
-    ensures answer { Answers (record { report = line.now; status = Status.Refused }) result (S.octets out.old) (S.octets out.new) }
+    ensures answer { Answers (record { report = line.now; status = Status.Refused }) result (S.octets out.old)
+        (S.octets out.new) }
     ensures ends { EndsWriting (S.faults out.old) (S.faults out.new) result }
     ensures not_whole { IsWhole result → ⊥ }
     ensures no_usage { result ≢ Status.Usage }
@@ -95,8 +96,10 @@ pub(crate) fn refuse_merged<S: Sink>(fault: &BuildFault, out: &mut S) -> Status
 
 /// Says why a keyring is refused.
 pub(crate) fn refuse_keyring<S: Sink>(fault: &KeyringFault, out: &mut S) -> Status
-    ensures answer { fault.now ≢ KeyringFault.NoMemory → Answers (refused (codes "keyring") (keyring_reason fault.now)) result (S.octets out.old) (S.octets out.new) }
-    ensures no_memory { fault.now ≡ KeyringFault.NoMemory → (result ≡ Status.NoMemory) × (S.octets out.new ≡ S.octets out.old) }
+    ensures answer { fault.now ≢ KeyringFault.NoMemory → Answers (refused (codes "keyring") (keyring_reason fault.now))
+        result (S.octets out.old) (S.octets out.new) }
+    ensures no_memory { fault.now ≡ KeyringFault.NoMemory → (result ≡ Status.NoMemory)
+        × (S.octets out.new ≡ S.octets out.old) }
     ensures memory { result ≡ Status.NoMemory → fault.now ≡ KeyringFault.NoMemory }
     ensures ends { EndsTelling (S.faults out.old) (S.faults out.new) result }
     ensures not_whole { IsWhole result → ⊥ }
@@ -169,7 +172,8 @@ fn attribute_name(attribute: Attribute) -> &'static str
 }
 
 fn signature_line(stored: &Option<[u8; 16]>, computed: &[u8; 16]) -> LineBuf
-    ensures { result ≡ (refused (codes "keyring") (keyring_reason (KeyringFault.Signature stored.now computed.now))).report }
+    ensures { result ≡ (refused (codes "keyring") (keyring_reason
+        (KeyringFault.Signature stored.now computed.now))).report }
 {
     let mut line = LineBuf::new();
     line.text("refused keyring signature ");

@@ -26,7 +26,8 @@ pub(crate) fn pass_line<S: Sink>(
     page: &mut Page,
     out: &mut S,
 ) -> Result<(), Failed>
-    ensures text { Passes page.old.held page.new.held (S.octets out.old) (S.octets out.new) result (line_text line.now time apdu.now) }
+    ensures text { Passes page.old.held page.new.held (S.octets out.old) (S.octets out.new) result
+        (line_text line.now time apdu.now) }
     ensures cause { HasCause (S.faults out.old) (S.faults out.new) result }
 {
     let held = page.len();
@@ -42,7 +43,11 @@ pub(crate) fn pass_line<S: Sink>(
 
 /// Hands on what waits, and ends the report with the total.
 pub(crate) fn finish<S: Sink>(audit: &Audit, page: &mut Page, out: &mut S) -> Status
-    ensures answer { Answers (after page.old.held (record { report = total_text audit.now.total; status = total_status audit.now.total })) result (S.octets out.old) (S.octets out.new) }
+    ensures answer { Answers (after page.old.held (record {
+      report = total_text audit.now.total;
+      status = total_status
+          audit.now.total;
+    })) result (S.octets out.old) (S.octets out.new) }
     ensures ends { EndsWriting (S.faults out.old) (S.faults out.new) result }
 {
     match page.hand_on(out) {
@@ -66,7 +71,8 @@ pub(crate) fn finish_frames<S: Sink>(fault: &RecordFault, page: &mut Page, out: 
     ensures answer { EndsList fault.now page.old.held result (S.octets out.old) (S.octets out.new) }
     ensures read_fault { result ≡ Status.ReadFault → fault.now ≡ RecordFault.ReadFault }
     ensures only_read_fault { fault.now ≡ RecordFault.ReadFault → result ≡ Status.ReadFault }
-    ensures handed { result ≡ Status.ReadFault → HandsOn page.old.held (S.octets out.old) (S.octets out.new) (S.faults out.old) (S.faults out.new) }
+    ensures handed { result ≡ Status.ReadFault → HandsOn page.old.held (S.octets out.old) (S.octets out.new)
+        (S.faults out.old) (S.faults out.new) }
     ensures memory { result ≡ Status.NoMemory → fault.now ≡ RecordFault.NoMemory }
     ensures ends { EndsPage (S.faults out.old) (S.faults out.new) result }
     ensures not_whole { IsWhole result → ⊥ }
@@ -86,7 +92,8 @@ pub(crate) fn finish_frames<S: Sink>(fault: &RecordFault, page: &mut Page, out: 
 
 // Hands on what waits, and ends the report with the refusal of a file.
 fn finish_refused<S: Sink>(line: &LineBuf, page: &mut Page, out: &mut S) -> Status
-    ensures answer { Answers (after page.old.held (record { report = line.now; status = Status.Refused })) result (S.octets out.old) (S.octets out.new) }
+    ensures answer { Answers (after page.old.held (record { report = line.now; status = Status.Refused })) result
+        (S.octets out.old) (S.octets out.new) }
     ensures ends { EndsWriting (S.faults out.old) (S.faults out.new) result }
 {
     match page.hand_on(out) {
@@ -109,7 +116,8 @@ fn stop_unread<S: Sink>(page: &mut Page, out: &mut S) -> Status
 
 /// Hands on what waits where memory is wanting. A sink that does not take it is the fault that is told.
 pub(crate) fn stop_without_memory<S: Sink>(page: &mut Page, out: &mut S) -> Status
-    ensures answer { Answers (record { report = page.old.held; status = Status.NoMemory }) result (S.octets out.old) (S.octets out.new) }
+    ensures answer { Answers (record { report = page.old.held; status = Status.NoMemory }) result (S.octets out.old)
+        (S.octets out.new) }
     ensures text { AppendsPrefix (S.octets out.old) (S.octets out.new) page.old.held }
     ensures ends { EndsTelling (S.faults out.old) (S.faults out.new) result }
     ensures not_whole { IsWhole result → ⊥ }

@@ -18,11 +18,11 @@ use std::alloc::Global;
 ///
 /// - `open KEYHEX FRAMEHEX` opens one frame; its words write 16 octets, and 1 to 1,024, in hexadecimal.
 /// - `audit TABLES FRAMES` judges the records of the file FRAMES under the tables of the file TABLES.
-/// - `audit-keyring KEYRING PASSWORDFILE TABLES FRAMES` does so under the rows of a keyring too, which the password in the file
-///   PASSWORDFILE opens. What the tables say of a channel stands in place of what the keyring says of it.
+/// - `audit-keyring KEYRING PASSWORDFILE TABLES FRAMES` does so under the rows of a keyring too, which the password in
+///   the file PASSWORDFILE opens. What the tables say of a channel stands in place of what the keyring says of it.
 ///
-/// The files are opened in the order of the words, each read to its end before the next. All other words are answered by the
-/// usage line.
+/// The files are opened in the order of the words, each read to its end before the next. All other words are answered
+/// by the usage line.
 pub fn run<F: Files, S: Sink>(alloc: Global, words: &[String], files: &mut F, out: &mut S) -> Status
     // Where the files tell their names, each that the words name is one of them.
     requires there { ForSome (F.seen files.old).told (λ told. AreThere (command_of (map string_bytes words.now)) told) }
@@ -30,11 +30,13 @@ pub fn run<F: Files, S: Sink>(alloc: Global, words: &[String], files: &mut F, ou
         → Answers (answer_of (map string_bytes words.now) told) result (S.octets out.old) (S.octets out.new) }
 
     // With Done and Alarm each file that the words name was read to its end.
-    ensures whole { IsWhole result → (told : List File) → AreFiles (command_of (map string_bytes words.now)) (F.seen files.old) told
+    ensures whole { IsWhole result → (told : List File) → AreFiles (command_of (map string_bytes words.now))
+        (F.seen files.old) told
         → AreRead (command_of (map string_bytes words.now)) told (F.seen files.new) }
 
     // After a refusal no further file is opened, whether or not its line could be written.
-    ensures unopened { IsServed result → (told : List File) → AreFiles (command_of (map string_bytes words.now)) (F.seen files.old) told
+    ensures unopened { IsServed result → (told : List File) → AreFiles (command_of (map string_bytes words.now))
+        (F.seen files.old) told
         → AreUnopened (command_of (map string_bytes words.now)) told (F.seen files.old) (F.seen files.new) }
 
     // The files tell the same as before.

@@ -55,12 +55,14 @@ impl WholeFile {
         ensures text { (told : List File) → (F.seen files.old).told ≡ Some told
             → MatchResult result (λ text. within self (octets_in told name.now) ≡ Ok text.items)
             (λ status. Stops (within self (octets_in told name.now)) status (S.octets out.old) (S.octets out.new)) }
-        ensures read { IsOk result → (told : List File) → (F.seen files.old).told ≡ Some told → IsRead told (F.seen files.new) name.now }
+        ensures read { IsOk result → (told : List File) → (F.seen files.old).told ≡ Some told
+            → IsRead told (F.seen files.new) name.now }
         ensures told { (F.seen files.new).told ≡ (F.seen files.old).told }
         ensures others { IsServed (status_of result) → OthersStay (F.seen files.old) (F.seen files.new) name.now }
         ensures unwritten { OnOk result (out.new ≡ out.old) }
         ensures not_whole { IfErr result (λ status. IsWhole status → ⊥) }
-        ensures ends { EndsReading (F.seen files.old) (F.seen files.new) (S.faults out.old) (S.faults out.new) (status_of result) }
+        ensures ends { EndsReading (F.seen files.old) (F.seen files.new) (S.faults out.old) (S.faults out.new)
+            (status_of result) }
     {
         match read_all(alloc, files, name, self.most()) {
             Ok(Some(text)) => Ok(text),

@@ -73,7 +73,8 @@ fn read_two<'a>(verb: &str, first: &'a str, second: &'a str) -> Option<Command<'
 }
 
 fn read_opening<'a>(key: &str, frame: &str) -> Option<Command<'a>>
-    ensures asked { option_map asked_of result ≡ opening (octets_between 16 16 key.now) (octets_between 1 1024 frame.now) }
+    ensures asked { option_map asked_of result ≡ opening (octets_between 16 16 key.now)
+        (octets_between 1 1024 frame.now) }
 {
     let Some(key) = read_key(key) else {
         return None;

@@ -15,15 +15,18 @@ use Rattle.mark_cells.specs.Cell.{copy_number, greatest, reading, other_copy, ce
 use Rattle.mark_cells.proofs.Copies.{greatest-comm, beside, copy_open, copy_shut, copy_same, copied_from, reading_same, other_same, open_same}
 
 -- A cell whose octets are as they were reads as it did.
-pub reading_kept : (a b : List ℕ) (at : ℕ) → ((k : ℕ) → k < 14 → slice_index b (at + k) ≡ slice_index a (at + k)) → reading b at ≡ reading a at
+pub reading_kept : (a b : List ℕ) (at : ℕ) → ((k : ℕ) → k < 14 → slice_index b (at + k) ≡ slice_index a (at + k))
+    → reading b at ≡ reading a at
 unfolding reading
 reading_kept a b at same =
     let first : copy_number b at ≡ copy_number a at = copy_same b a at at (λ k h. same k (omega arith)) in
-    let second : copy_number b (at + 7) ≡ copy_number a (at + 7) = copy_same b a (at + 7) (at + 7) (λ k h. simp add_assoc (same (7 + k) (omega arith))) in
+    let second : copy_number b (at + 7) ≡ copy_number a (at + 7) =
+    copy_same b a (at + 7) (at + 7) (λ k h. simp add_assoc (same (7 + k) (omega arith))) in
     ap (λ x. greatest x (copy_number b (at + 7))) first ∙ ap (greatest (copy_number a at)) second
 
 -- What is torn outside a cell leaves its reading alone.
-pub reading_outside : {from n : ℕ} {a b : List ℕ} (at : ℕ) → Torn from n a b → (from + n ≤ at) ⊎ (at + 14 ≤ from) → reading b at ≡ reading a at
+pub reading_outside : {from n : ℕ} {a b : List ℕ} (at : ℕ) → Torn from n a b → (from + n ≤ at) ⊎ (at + 14 ≤ from)
+    → reading b at ≡ reading a at
 reading_outside {a = a} {b = b} at torn (inl behind) = reading_kept a b at (λ k h. torn.after (at + k) (omega arith))
 reading_outside {a = a} {b = b} at torn (inr before) = reading_kept a b at (λ k h. torn.before (at + k) (omega arith))
 
@@ -45,10 +48,12 @@ others_read at torn other apart = elim apart [
 -- the number behind a gate
 number_behind : (n gate : ℕ) (c : List ℕ) → n < 2 ^ 48 → HasBody gate (octets_of n) c → number_at c (gate + 1) ≡ n
 number_behind n gate c fits has =
-    number_at_same c (octets_of n) (gate + 1) 0 (λ k h. simp zero-add (has.each k (omega (arith, length-octets_of n)))) ∙ number_at-octets_of n fits
+    number_at_same c (octets_of n) (gate + 1) 0 (λ k h. simp zero-add (has.each k (omega (arith, length-octets_of n))))
+    ∙ number_at-octets_of n fits
 
 -- the copy that a raise writes, at each moment: shut, as before, or new
-written_copy : (n gate : ℕ) (a c : List ℕ) → n < 2 ^ 48 → IsGatedMoment gate (octets_of n) a c → (gate_open : Bool) → is_open c gate ≡ gate_open
+written_copy : (n gate : ℕ) (a c : List ℕ) → n < 2 ^ 48 → IsGatedMoment gate (octets_of n) a c → (gate_open : Bool)
+    → is_open c gate ≡ gate_open
     → (copy_number c gate ≡ None) ⊎ ((copy_number c gate ≡ copy_number a gate) ⊎ (copy_number c gate ≡ Some n))
 written_copy n gate a c fits moment false shut = inl (copy_shut c gate shut)
 written_copy n gate a c fits moment true opened = elim moment.behind [
@@ -62,14 +67,17 @@ written_copy n gate a c fits moment true opened = elim moment.behind [
 ]
 
 -- the copy that a raise does not write
-kept_copy : (n gate other : ℕ) (a c : List ℕ) → IsGatedMoment gate (octets_of n) a c → (other + 7 ≤ gate) ⊎ (gate + 7 ≤ other)
+kept_copy : (n gate other : ℕ) (a c : List ℕ) → IsGatedMoment gate (octets_of n) a c → (other + 7 ≤ gate)
+    ⊎ (gate + 7 ≤ other)
     → copy_number c other ≡ copy_number a other
-kept_copy n gate other a c moment (inl before) = copy_same c a other other (λ k h. moment.outside.before (other + k) (omega arith))
+kept_copy n gate other a c moment (inl before) =
+    copy_same c a other other (λ k h. moment.outside.before (other + k) (omega arith))
 kept_copy n gate other a c moment (inr behind) =
     copy_same c a other other (λ k h. moment.outside.after (other + k) (omega (arith, length-octets_of n)))
 
 -- the greatest of the two, of which the second is the one that is current
-greatest_of : (x x' y : Option ℕ) (v n : ℕ) → y ≡ Some v → v < n → greatest x' y ≡ y → (x ≡ None) ⊎ ((x ≡ x') ⊎ (x ≡ Some n))
+greatest_of : (x x' y : Option ℕ) (v n : ℕ) → y ≡ Some v → v < n → greatest x' y ≡ y → (x ≡ None)
+    ⊎ ((x ≡ x') ⊎ (x ≡ Some n))
     → (greatest x y ≡ y) ⊎ (greatest x y ≡ Some n)
 greatest_of x x' y v n is below current (inl none) = inl (ap (λ o. greatest o y) none)
 greatest_of x x' y v n is below current (inr (inl same)) = inl (ap (λ o. greatest o y) same ∙ current)
@@ -137,7 +145,8 @@ module _ (a c : List ℕ) (at n p q : ℕ) (cell : IsRaisedAt a at p q) (below :
   moment_of : IsOldOrNew a at n c
   moment_of = record {
     outside = torn_within moment.outside cell.low (omega (arith, cell.high, length-octets_of n));
-    reads = elim (greatest_of (copy_number c p) (copy_number a p) (copy_number a q) below.value n current_reads below.below cell.current
+    reads = elim (greatest_of (copy_number c p) (copy_number a p) (copy_number a q) below.value n current_reads
+        below.below cell.current
         (written_copy n p a c fits moment (is_open c p) refl)) [
           | inl old ↦ inl (now_reads ∙ old ∙ sym (cell.copies a ∙ cell.current))
           | inr new ↦ inr (now_reads ∙ new)
@@ -148,7 +157,8 @@ module _ (a c : List ℕ) (at n p q : ℕ) (cell : IsRaisedAt a at p q) (below :
   raised_reads opened =
       let less : below.value < n = below.below in
       now_reads ∙ ap (greatest (copy_number c p)) current_reads
-      ∙ ap (λ o. greatest o (Some below.value)) (copy_open c p opened.open_gate ∙ ap Some (number_behind n p c fits opened.holds))
+      ∙ ap (λ o. greatest o (Some below.value)) (copy_open c p opened.open_gate
+      ∙ ap Some (number_behind n p c fits opened.holds))
       ∙ ap Some (omega (arith, less))
 
 module _ (a : List ℕ) (at n : ℕ) (inside : at + 14 ≤ length a) where
@@ -156,13 +166,15 @@ module _ (a : List ℕ) (at n : ℕ) (inside : at + 14 ≤ length a) where
   fits_behind p high = omega (arith, length-octets_of n)
 
   -- A moment of a raise: the old number or the new, and nothing outside the cell.
-  pub raise_moment : ReadsBelow a at n → n < 2 ^ 48 → (c : List ℕ) → Reached (cell_writes a at n) a c → IsOldOrNew a at n c
+  pub raise_moment : ReadsBelow a at n → n < 2 ^ 48 → (c : List ℕ) → Reached (cell_writes a at n) a c
+      → IsOldOrNew a at n c
   unfolding cell_writes
   raise_moment below fits c reached =
       let (p, q, cell) = raised_at a at in
       let there : Reached (gated_writes p (is_open a p) (octets_of n)) a c =
       subst (λ p. Reached (gated_writes p (is_open a p) (octets_of n)) a c) cell.written reached in
-      moment_of a c at n p q cell below fits (gated_moment p (is_open a p) (octets_of n) a c refl (fits_behind p cell.high) there)
+      moment_of a c at n p q cell below fits (gated_moment p (is_open a p) (octets_of n) a c refl
+      (fits_behind p cell.high) there)
 
   -- After a whole raise the cell reads the new number.
   pub raise_whole : ReadsBelow a at n → n < 2 ^ 48 → reading (written (cell_writes a at n) a) at ≡ Some n
@@ -170,9 +182,11 @@ module _ (a : List ℕ) (at n : ℕ) (inside : at + 14 ≤ length a) where
   raise_whole below fits =
       let (p, q, cell) = raised_at a at in
       let all = written (gated_writes p (is_open a p) (octets_of n)) a in
-      let moment = gated_moment p (is_open a p) (octets_of n) a all refl (fits_behind p cell.high) (reached_whole (gated_writes p (is_open a p) (octets_of n)) a) in
+      let moment = gated_moment p (is_open a p) (octets_of n) a all refl (fits_behind p cell.high)
+      (reached_whole (gated_writes p (is_open a p) (octets_of n)) a) in
       subst (λ p. reading (written (gated_writes p (is_open a p) (octets_of n)) a) at ≡ Some n) (sym cell.written)
-      (raised_reads a all at n p q cell below fits moment (gated_whole p (is_open a p) (octets_of n) a (fits_behind p cell.high)))
+      (raised_reads a all at n p q cell below fits moment (gated_whole p (is_open a p) (octets_of n) a
+      (fits_behind p cell.high)))
 
 -- A raise is two writes or three.
 pub cell_writes_few : (a : List ℕ) (at n : ℕ) → length (cell_writes a at n) ≤ 3
@@ -185,7 +199,8 @@ unfolding cell_writes
 cell_writes_fit a at n size inside =
     let (p, q, cell) = raised_at a at in
     let high : other_copy a at + 7 ≤ at + 14 = omega (arith, cell.written, cell.high) in
-    gated_fit (other_copy a at) size (is_open a (other_copy a at)) (octets_of n) (omega (arith, high, length-octets_of n)) (omega (arith, length-octets_of n))
+    gated_fit (other_copy a at) size (is_open a (other_copy a at)) (octets_of n)
+    (omega (arith, high, length-octets_of n)) (omega (arith, length-octets_of n))
 
 -- Any call that makes the writes of a raise leaves only such images,
 pub makes_moments : {answer : Option NvmFault} {a b : State} {p q : ℕ → List ℕ → Type 0} (at n : ℕ)
@@ -201,27 +216,36 @@ makes_moments {a = a} at n inside below fits made =
 pub makes_now : {answer : Option NvmFault} {a b : State} {p q : ℕ → List ℕ → Type 0} (at n : ℕ)
     → at + 14 ≤ length a.octets → ReadsBelow a.octets at n → n < 2 ^ 48
     → Makes (cell_writes a.octets at n) answer a b p q → IsOldOrNew a.octets at n b.octets
-makes_now {a = a} {b = b} at n inside below fits made = raise_moment a.octets at n inside below fits b.octets (makes_reached made)
+makes_now {a = a} {b = b} at n inside below fits made =
+    raise_moment a.octets at n inside below fits b.octets (makes_reached made)
 
 -- and leaves the new number where it is answered Ok.
 pub makes_raised : {T : Type 0} {a b : State} {p q : ℕ → List ℕ → Type 0} (result : Result T NvmFault) (at n : ℕ)
     → at + 14 ≤ length a.octets → ReadsBelow a.octets at n → n < 2 ^ 48
     → Makes (cell_writes a.octets at n) (fault_of result) a b p q → OnOk result (reading b.octets at ≡ Some n)
-makes_raised {a = a} (Ok _) at n inside below fits made = ap (λ o. reading o at) made.octets ∙ raise_whole a.octets at n inside below fits
+makes_raised {a = a} (Ok _) at n inside below fits made =
+    ap (λ o. reading o at) made.octets ∙ raise_whole a.octets at n inside below fits
 makes_raised (Err _) at n inside below fits made = tt
 
 -- a call that reads the cell and then makes the writes that its octets ask for makes those of a raise
-pub makes_raise : {answer : Option NvmFault} {a m b : State} {p q r : ℕ → List ℕ → Type 0} (cell body : List ℕ) (at other n : ℕ)
-    → at + 14 ≤ length a.octets → cell ≡ slice_range a.octets at (at + 14) → other ≡ other_copy cell 0 → other < 14 → body ≡ octets_of n
+pub makes_raise : {answer : Option NvmFault} {a m b : State} {p q r : ℕ → List ℕ → Type 0} (cell body : List ℕ)
+    (at other n : ℕ)
+    → at + 14 ≤ length a.octets → cell ≡ slice_range a.octets at (at + 14) → other ≡ other_copy cell 0 → other < 14
+    → body ≡ octets_of n
     → Reads None a m p q → Makes (gated_writes (at + other) (is_open cell other) body) answer m b q r
     → Makes (cell_writes a.octets at n) answer a b p r
 unfolding cell_writes
-makes_raise {answer = answer} {a = a} {b = b} {p = p} {r = r} cell body at other n inside read found below is_body reads made =
+makes_raise {answer = answer} {a = a} {b = b} {p = p} {r = r} cell body at other n inside read found below is_body reads
+    made =
     let copied = copied_from cell a.octets at inside read in
-    let place : at + other ≡ other_copy a.octets at = ap (λ k. at + k) found ∙ sym (other_same cell a.octets at copied) in
-    let gate : is_open cell other ≡ is_open a.octets (other_copy a.octets at) = open_same cell a.octets at copied other below ∙ ap (is_open a.octets) place in
-    let writes : gated_writes (at + other) (is_open cell other) body ≡ gated_writes (other_copy a.octets at) (is_open a.octets (other_copy a.octets at)) (octets_of n) =
-    ap (λ k. gated_writes k (is_open cell other) body) place ∙ ap (λ b. gated_writes (other_copy a.octets at) b body) gate
+    let place : at + other ≡ other_copy a.octets at =
+    ap (λ k. at + k) found ∙ sym (other_same cell a.octets at copied) in
+    let gate : is_open cell other ≡ is_open a.octets (other_copy a.octets at) =
+    open_same cell a.octets at copied other below ∙ ap (is_open a.octets) place in
+    let writes : gated_writes (at + other) (is_open cell other) body
+    ≡ gated_writes (other_copy a.octets at) (is_open a.octets (other_copy a.octets at)) (octets_of n) =
+    ap (λ k. gated_writes k (is_open cell other) body) place
+    ∙ ap (λ b. gated_writes (other_copy a.octets at) b body) gate
     ∙ ap (gated_writes (other_copy a.octets at) (is_open a.octets (other_copy a.octets at))) is_body in
     subst (λ (w : List Write). Makes w answer a b p r) writes (makes_after_read reads made)
 
@@ -245,36 +269,45 @@ unfolding reading formatted number_at octets_of
 reading_formatted n fits = ap Some (omega arith)
 
 -- a write of a formatted cell
-pub reading_put : (a : List ℕ) (at n : ℕ) → at + 14 ≤ length a → n < 2 ^ 48 → reading (put (record { at = at; bytes = formatted n }) a) at ≡ Some n
+pub reading_put : (a : List ℕ) (at n : ℕ) → at + 14 ≤ length a → n < 2 ^ 48
+    → reading (put (record { at = at; bytes = formatted n }) a) at ≡ Some n
 reading_put a at n inside fits =
     let w : Write = record { at = at; bytes = formatted n } in
-    sym (reading_same (formatted n) (put w a) at (λ k h. sym (put_inside w a k (omega (arith, length-formatted n)) (omega (arith, length-formatted n)))))
+    sym (reading_same (formatted n) (put w a) at (λ k h. sym
+    (put_inside w a k (omega (arith, length-formatted n)) (omega (arith, length-formatted n)))))
     ∙ reading_formatted n fits
 
-pub makes_format : {answer : Option NvmFault} {a b : State} {p q : ℕ → List ℕ → Type 0} (at n : ℕ) (octets : List ℕ) → octets ≡ octets_of n
-    → Makes (record { at = at; bytes = 0xA5 ∷ octets ++ replicate 7 0 } ∷ []) answer a b p q → Makes (format_writes at n) answer a b p q
+pub makes_format : {answer : Option NvmFault} {a b : State} {p q : ℕ → List ℕ → Type 0} (at n : ℕ) (octets : List ℕ)
+    → octets ≡ octets_of n
+    → Makes (record { at = at; bytes = 0xA5 ∷ octets ++ replicate 7 0 } ∷ []) answer a b p q
+    → Makes (format_writes at n) answer a b p q
 unfolding format_writes formatted
 makes_format {answer = answer} {a = a} {b = b} {p = p} {q = q} at n octets is made =
     subst (λ o. Makes (record { at = at; bytes = 0xA5 ∷ o ++ replicate 7 0 } ∷ []) answer a b p q) is made
 
 pub format_leaves : {T : Type 0} {a b : State} {p q : ℕ → List ℕ → Type 0} (result : Result T NvmFault) (at n : ℕ)
-    → Makes (format_writes at n) (fault_of result) a b p q → OnOk result (b.octets ≡ put (record { at = at; bytes = formatted n }) a.octets)
+    → Makes (format_writes at n) (fault_of result) a b p q → OnOk result
+    (b.octets ≡ put (record { at = at; bytes = formatted n }) a.octets)
 unfolding format_writes
 format_leaves (Ok _) at n made = made.octets
 format_leaves (Err _) at n made = tt
 
-pub format_reads : {T : Type 0} {a b : State} {p q : ℕ → List ℕ → Type 0} (result : Result T NvmFault) (at n : ℕ) → at + 14 ≤ length a.octets → n < 2 ^ 48
+pub format_reads : {T : Type 0} {a b : State} {p q : ℕ → List ℕ → Type 0} (result : Result T NvmFault) (at n : ℕ)
+    → at + 14 ≤ length a.octets → n < 2 ^ 48
     → Makes (format_writes at n) (fault_of result) a b p q → OnOk result (reading b.octets at ≡ Some n)
 unfolding format_writes
-format_reads {a = a} (Ok _) at n inside fits made = ap (λ o. reading o at) made.octets ∙ reading_put a.octets at n inside fits
+format_reads {a = a} (Ok _) at n inside fits made =
+    ap (λ o. reading o at) made.octets ∙ reading_put a.octets at n inside fits
 format_reads (Err _) at n inside fits made = tt
 
 -- A write of a formatted cell stays inside the cell.
-pub format_within : {answer : Option NvmFault} {a b : State} {p q : ℕ → List ℕ → Type 0} (at n : ℕ) → at + 14 ≤ length a.octets
+pub format_within : {answer : Option NvmFault} {a b : State} {p q : ℕ → List ℕ → Type 0} (at n : ℕ)
+    → at + 14 ≤ length a.octets
     → Makes (format_writes at n) answer a b p q → Torn at 14 a.octets b.octets
 unfolding format_writes
 format_within {a = a} {b = b} at n inside made = elim (makes_reached made) [
   | inl torn ↦ torn_within torn (omega arith) (omega (arith, length-formatted n))
   | inr whole ↦ subst (Torn at 14 a.octets) (sym whole)
-      (torn_within (torn_put (record { at = at; bytes = formatted n }) a.octets (omega (arith, length-formatted n))) (omega arith) (omega (arith, length-formatted n)))
+      (torn_within (torn_put (record { at = at; bytes = formatted n }) a.octets (omega (arith, length-formatted n)))
+      (omega arith) (omega (arith, length-formatted n)))
 ]

@@ -27,8 +27,8 @@ pub record IsUnformatted (image : List ℕ) (at : ℕ) : Type 0 where
   pub first : is_open image at ≡ false
   pub second : is_open image (at + 7) ≡ false
 
--- The place of the copy that is not current. Current is the open copy with the greatest number, and copy A where both are open
--- with equal numbers. Where no copy is open it is the place of A.
+-- The place of the copy that is not current. Current is the open copy with the greatest number, and copy A where both
+-- are open with equal numbers. Where no copy is open it is the place of A.
 abbrev pub place_beside : Option ℕ → Option ℕ → ℕ → ℕ
 place_beside None _ at = at
 place_beside (Some a) None at = at + 7
@@ -61,7 +61,8 @@ pub record IsOldOrNew (old : List ℕ) (at n : ℕ) (image : List ℕ) : Type 0 
 
 -- every cell that does not overlap this one reads as before
 abbrev pub OthersReadAsBefore : List ℕ → ℕ → List ℕ → Type 0
-OthersReadAsBefore old at new = (other : ℕ) → (other + 14 ≤ at) ⊎ (at + 14 ≤ other) → reading new other ≡ reading old other
+OthersReadAsBefore old at new =
+    (other : ℕ) → (other + 14 ≤ at) ⊎ (at + 14 ≤ other) → reading new other ≡ reading old other
 
 -- the fault of the memory that an answer hands on
 abbrev pub memory_fault : {T : Type 0} → Result T CellFault → Option NvmFault

@@ -22,7 +22,8 @@ pub fn format_cell<M: Nvm>(memory: &mut M, at: usize, value: Number48) -> Result
 
     ensures makes { Makes (format_writes at value) (fault_of result)
         (M.state memory.old) (M.state memory.new) (M.images memory.old) (M.images memory.new) }
-    ensures formatted { OnOk result ((M.state memory.new).octets ≡ put (record { at = at; bytes = formatted value }) (M.state memory.old).octets) }
+    ensures formatted { OnOk result ((M.state memory.new).octets
+        ≡ put (record { at = at; bytes = formatted value }) (M.state memory.old).octets) }
     ensures reads { OnOk result (reading (M.state memory.new).octets at ≡ Some value) }
     ensures any_moment { LeavesOnly (M.state memory.old).clock (M.images memory.old) (M.images memory.new)
         (Torn at 14 (M.state memory.old).octets) }
@@ -58,8 +59,8 @@ pub fn read_cell<M: Nvm>(memory: &mut M, at: usize) -> Result<Number48, CellFaul
 
 /// Raises the number of a cell in two or three writes, none of which touches the copy that is current.
 ///
-/// A cut at any moment leaves the old or the new number. Failed comes only where the memory counted a fault in this call, Cut
-/// only where it counted a cut or had no power.
+/// A cut at any moment leaves the old or the new number. Failed comes only where the memory counted a fault in this
+/// call, Cut only where it counted a cut or had no power.
 pub fn raise_cell<M: Nvm>(memory: &mut M, at: usize, new: Number48) -> Result<(), NvmFault>
     requires inside { at + 14 ≤ length (M.state memory.old).octets }
     requires below { ReadsBelow (M.state memory.old).octets at new }

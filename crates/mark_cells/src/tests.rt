@@ -27,8 +27,8 @@ fn raise<M: Nvm>(memory: &mut M, new: u64) -> Result<bool, Fail>
     Ok(false)
 }
 
-// Each row: what the cell was raised to since it was formatted with 5, what it is raised to then, the write that is cut, and
-// what it reads after power returns, for the torn octets 00, a5 and ff.
+// Each row: what the cell was raised to since it was formatted with 5, what it is raised to then, the write that is
+// cut, and what it reads after power returns, for the torn octets 00, a5 and ff.
 #[test]
 fn a_raise_that_is_cut_leaves_the_old_number_or_the_new(rt: HostRuntime) -> Result<(), Fail> {
     let rows = [

@@ -1,4 +1,5 @@
--- A telegram whose verdict is good passes every check, and so has a channel with a key and a sender that may send there.
+-- A telegram whose verdict is good passes every check, and so has a channel with a key and a sender that may send
+-- there.
 use Rattle.std.proofs.Common.{◌≡◌, ℕ, ◌&&◌, ◌||◌, List, [], ◌∷◌, Bool, true, false, Option, Some, None, refl, sym, ap, ◌∙◌}
 use Rattle.std.specs.Prelude.{◌==◌, ◌-◌, length, slice_index, nat_lt, if◌then◌else◌}
 use Rattle.std.specs.Option.{is_some, option_map}
@@ -57,13 +58,15 @@ bad_first : (check : Option Verdict) (rest : List (Option Verdict)) → IsBad ch
 bad_first None rest is others = others
 bad_first (Some failed) rest is others = is
 
-bad_entry : (rows : List Row) (asked : Option (List ℕ)) (t : Telegram) → IsBad (first_failing (entry_checks rows asked t))
+bad_entry : (rows : List Row) (asked : Option (List ℕ)) (t : Telegram)
+    → IsBad (first_failing (entry_checks rows asked t))
 bad_entry rows asked t =
     bad_first (check_control t) _ (bad_if _ _ refl)
     (bad_first (check_plain t) _ (bad_if _ _ refl)
     (bad_first (check_secure t) _ (bad_secures (bad_secure t.content (is_group t)))
     (bad_first (check_key rows t) _ (bad_if _ _ refl)
-    (bad_first (check_pending asked t) [] (bad_where (sync_service t == 3) _ (bad_if (is_some asked) verdict.NoPending refl)) tt))))
+    (bad_first (check_pending asked t) [] (bad_where (sync_service t == 3) _
+    (bad_if (is_some asked) verdict.NoPending refl)) tt))))
 
 bad_data : (rows : List Row) (mark number : ℕ) (c : Channel) (t : Telegram) (apdu : List ℕ)
     → IsBad (first_failing (data_checks rows mark number c t apdu))
@@ -76,7 +79,8 @@ bad_data rows mark number c t apdu =
     (bad_first (check_upper (slice_index apdu 0)) _
     (bad_unless (nat_lt 3 (slice_index apdu 0)) (verdict.Service (bad.UpperBits (slice_index apdu 0))) refl)
     (bad_first (check_service c (bits_in apdu)) []
-    (bad_if (is_service_on c (services.service_of (bits_in apdu))) (verdict.Service (bad.Code (bits_in apdu))) refl) tt))))
+    (bad_if (is_service_on c (services.service_of (bits_in apdu))) (verdict.Service (bad.Code (bits_in apdu))) refl)
+    tt))))
 
 bad_last : (is_data : Bool) (checks : List (Option Verdict)) → IsBad (first_failing checks)
     → IsBad (first_failing (if is_data then checks else []))
@@ -85,21 +89,25 @@ bad_last false checks is = tt
 
 bad_on : (rows : List Row) (mark number : ℕ) (c : Channel) (t : Telegram) (apdu : List ℕ) (rest : List (Option Verdict))
     → IsBad (first_failing rest)
-    → IsBad (first_failing (check_code (key_on rows c) number t ∷ check_payload number t apdu ∷ check_sender rows c t ∷ rest))
+    → IsBad (first_failing (check_code (key_on rows c) number t ∷ check_payload number t apdu ∷ check_sender rows c t
+    ∷ rest))
 bad_on rows mark number c t apdu rest others =
     bad_first (check_code (key_on rows c) number t) _
     (bad_code _ (codes_in (key_on rows c) number t))
     (bad_first (check_payload number t apdu) _
-    (bad_where (sync_service t == 3) _ (bad_if ((sync_values apdu).0 == number) (verdict.BadPayload (sync_values apdu).0 number) refl))
+    (bad_where (sync_service t == 3) _ (bad_if ((sync_values apdu).0 == number)
+    (verdict.BadPayload (sync_values apdu).0 number) refl))
     (bad_first (check_sender rows c t) rest (bad_if _ verdict.Sender refl) others))
 
 -- ---- so a good verdict is that of a telegram where none fails
 
-good_where : (good : Verdict) (failed : Option Verdict) → IsBad failed → is_good (verdict_or good failed) ≡ true → failed ≡ None
+good_where : (good : Verdict) (failed : Option Verdict) → IsBad failed → is_good (verdict_or good failed) ≡ true
+    → failed ≡ None
 good_where good None is_bad is = refl
 good_where good (Some failed) is_bad is = elim (false≢true (sym is_bad ∙ is)) [ ]
 
-third_passes : (first second third : Option Verdict) (rest : List (Option Verdict)) → first_failing (first ∷ second ∷ third ∷ rest) ≡ None
+third_passes : (first second third : Option Verdict) (rest : List (Option Verdict))
+    → first_failing (first ∷ second ∷ third ∷ rest) ≡ None
     → third ≡ None
 third_passes None None None rest is = refl
 third_passes None None (Some _) rest is = absurd cc
@@ -107,7 +115,8 @@ third_passes None (Some _) third rest is = absurd cc
 third_passes (Some _) second third rest is = absurd cc
 
 -- the first three pass, and so do those after them
-parts_pass : (first second third : Option Verdict) (rest : List (Option Verdict)) → first_failing (first ∷ second ∷ third ∷ rest) ≡ None
+parts_pass : (first second third : Option Verdict) (rest : List (Option Verdict))
+    → first_failing (first ∷ second ∷ third ∷ rest) ≡ None
     → (first_failing (first ∷ second ∷ third ∷ []) ≡ None) × (first_failing rest ≡ None)
 parts_pass None None None rest is = (refl, is)
 parts_pass None None (Some _) rest is = absurd cc
@@ -126,11 +135,13 @@ pub record Passes (rows : List Row) (mark : ℕ) (asked : Option (List ℕ)) (t 
   pub entered : first_failing (entry_checks rows asked t) ≡ None
   pub coded : first_failing (code_checks rows (number_in asked t) channel t) ≡ None
   pub sender : check_sender rows channel t ≡ None
-  pub last : first_failing (last_checks rows mark (number_in asked t) channel t (apdu_in (key_on rows channel) (number_in asked t) t)) ≡ None
+  pub last : first_failing (last_checks rows mark (number_in asked t) channel t
+      (apdu_in (key_on rows channel) (number_in asked t) t)) ≡ None
   pub verdict_is : verdict_of rows mark asked t
       ≡ good_verdict (number_in asked t) t (apdu_in (key_on rows channel) (number_in asked t) t)
 
-pub passes : (rows : List Row) (mark : ℕ) (asked : Option (List ℕ)) (t : Telegram) → is_good (verdict_of rows mark asked t) ≡ true
+pub passes : (rows : List Row) (mark : ℕ) (asked : Option (List ℕ)) (t : Telegram)
+    → is_good (verdict_of rows mark asked t) ≡ true
     → Passes rows mark asked t
 unfolding verdict_of
 passes rows mark asked t is =
@@ -144,18 +155,22 @@ passes rows mark asked t is =
     let apdu = apdu_in (key_on rows c) number t in
     let last = last_checks rows mark number c t apdu in
     let good = good_verdict number t apdu in
-    let checks = first_failing (check_code (key_on rows c) number t ∷ check_payload number t apdu ∷ check_sender rows c t ∷ last) in
+    let checks = first_failing (check_code (key_on rows c) number t ∷ check_payload number t apdu
+    ∷ check_sender rows c t ∷ last) in
     let none = good_where good checks
-    (bad_on rows mark number c t apdu last (bad_last (sync_service t == 0) (data_checks rows mark number c t apdu) (bad_data rows mark number c t apdu)))
+    (bad_on rows mark number c t apdu last (bad_last (sync_service t == 0) (data_checks rows mark number c t apdu)
+    (bad_data rows mark number c t apdu)))
     (sym (ap is_good found.2) ∙ sym (ap is_good whole) ∙ is) in
-    let parts = parts_pass (check_code (key_on rows c) number t) (check_payload number t apdu) (check_sender rows c t) last none in
+    let parts = parts_pass (check_code (key_on rows c) number t) (check_payload number t apdu) (check_sender rows c t)
+    last none in
     record {
       channel = c;
       channel_is = found.1;
       entered = entered;
       coded = parts.0;
       last = parts.1;
-      sender = third_passes (check_code (key_on rows c) number t) (check_payload number t apdu) (check_sender rows c t) last none;
+      sender = third_passes (check_code (key_on rows c) number t) (check_payload number t apdu) (check_sender rows c t)
+          last none;
       verdict_is = whole ∙ found.2 ∙ ap (verdict_or good) none;
     }
 
@@ -164,11 +179,13 @@ key_where : (rows : List Row) (c : Channel) (key : Option (List ℕ)) → key_of
 key_where rows c None is some = elim (some is) [ ]
 key_where rows c (Some k) is some = (k, is)
 
-pub good_is_entitled : (rows : List Row) (mark : ℕ) (asked : Option (List ℕ)) (t : Telegram) → is_good (verdict_of rows mark asked t) ≡ true
+pub good_is_entitled : (rows : List Row) (mark : ℕ) (asked : Option (List ℕ)) (t : Telegram)
+    → is_good (verdict_of rows mark asked t) ≡ true
     → IsEntitled rows t
 good_is_entitled rows mark asked t is =
     let p = passes rows mark asked t is in
-    let key = key_where rows p.channel (key_of rows p.channel) refl (channel_in_has_key rows t p.channel p.channel_is) in
+    let key =
+    key_where rows p.channel (key_of rows p.channel) refl (channel_in_has_key rows t p.channel p.channel_is) in
     entitled rows asked t p.channel key.0 p.entered p.channel_is key.1 p.sender
 
 -- ---- a request is for a device
@@ -213,7 +230,8 @@ last_applies false false false true e fa fb fc fd fe is = absurd cc
 last_applies false false false false true fa fb fc fd fe is = absurd cc
 last_applies false false false false false fa fb fc fd fe is = refl
 
-no_request : (request answer misfit plain group : Bool) → ((request || answer) && (misfit || plain || group)) ≡ false → request ≡ true
+no_request : (request answer misfit plain group : Bool) → ((request || answer) && (misfit || plain || group)) ≡ false
+    → request ≡ true
     → group ≡ false
 no_request true answer misfit plain false is asks = refl
 no_request true answer true plain true is asks = absurd cc
@@ -226,13 +244,18 @@ request_to_device : (content : List ℕ) (group : Bool) → bad_secure content g
 unfolding bad_secure
 request_to_device content group is asks =
     let field = slice_index content 2 in
-    no_request (service_of field == 2) (service_of field == 3) (is_misfit (service_of field) (length content - 13)) (algorithm_of field == 0) group
-    (last_applies (nat_lt (length content - 2) 13) (nat_lt 1 (algorithm_of field)) (is_broadcast field) (is_unknown (service_of field))
-    (is_sync (service_of field) && (is_misfit (service_of field) (length content - 13) || algorithm_of field == 0 || group))
-    (secure.Short (length content - 2)) (secure.Algorithm (algorithm_of field)) secure.Broadcast (secure.Service (service_of field))
+    no_request (service_of field == 2) (service_of field == 3) (is_misfit (service_of field) (length content - 13))
+    (algorithm_of field == 0) group
+    (last_applies (nat_lt (length content - 2) 13) (nat_lt 1 (algorithm_of field)) (is_broadcast field)
+    (is_unknown (service_of field))
+    (is_sync (service_of field) && (is_misfit (service_of field) (length content - 13) || algorithm_of field == 0
+    || group))
+    (secure.Short (length content - 2)) (secure.Algorithm (algorithm_of field)) secure.Broadcast
+    (secure.Service (service_of field))
     (secure.Sync field (length content - 13)) is) asks
 
-pub is_no_group : (rows : List Row) (mark : ℕ) (asked : Option (List ℕ)) (t : Telegram) → is_ask (verdict_of rows mark asked t) ≡ true
+pub is_no_group : (rows : List Row) (mark : ℕ) (asked : Option (List ℕ)) (t : Telegram)
+    → is_ask (verdict_of rows mark asked t) ≡ true
     → is_group t ≡ false
 is_no_group rows mark asked t is =
     let p = passes rows mark asked t (ask_is_good (verdict_of rows mark asked t) is) in
@@ -240,5 +263,6 @@ is_no_group rows mark asked t is =
     let apdu = apdu_in (key_on rows p.channel) number t in
     let asks = asks_by (sync_service t == 0) (sync_service t == 2) number (sync_values apdu).1 (service_in apdu) apdu
     (sym (ap is_ask p.verdict_is) ∙ is) in
-    let is_secure = third_passes (check_control t) (check_plain t) (check_secure t) (check_key rows t ∷ check_pending asked t ∷ []) p.entered in
+    let is_secure = third_passes (check_control t) (check_plain t) (check_secure t)
+    (check_key rows t ∷ check_pending asked t ∷ []) p.entered in
     request_to_device t.content (is_group t) (none_found (bad_secure t.content (is_group t)) is_secure) asks

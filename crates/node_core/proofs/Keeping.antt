@@ -31,12 +31,14 @@ unless_failed : (failed : Bool) (kept : Lane × ℕ) (then_kept : Kept) → (if 
 unless_failed true kept then_kept is = absurd cc
 unless_failed false kept then_kept is = (refl, is)
 
-of_channel : (found : Option Channel) (kept : Lane × ℕ) (then_kept : Channel → Kept) → on_channel None found then_kept ≡ Some kept
+of_channel : (found : Option Channel) (kept : Lane × ℕ) (then_kept : Channel → Kept)
+    → on_channel None found then_kept ≡ Some kept
     → (c : Channel) × (found ≡ Some c) × (then_kept c ≡ Some kept)
 of_channel None kept then_kept is = absurd cc
 of_channel (Some c) kept then_kept is = (c, refl, is)
 
-third_passes : (first second third : Option Verdict) → is_some (first_failing (first ∷ second ∷ third ∷ [])) ≡ false → third ≡ None
+third_passes : (first second third : Option Verdict) → is_some (first_failing (first ∷ second ∷ third ∷ [])) ≡ false
+    → third ≡ None
 third_passes None None None is = refl
 third_passes None None (Some _) is = absurd cc
 third_passes None (Some _) third is = absurd cc
@@ -68,7 +70,8 @@ some_mapped f None = refl
 some_mapped f (Some _) = refl
 
 group_there : (destination : ℕ) (objects : List ObjectRow)
-    → list_any (is_of (record { 0 = destination })) objects ≡ is_group_of (groups_of objects) (record { 0 = destination })
+    → list_any (is_of (record { 0 = destination })) objects ≡ is_group_of (groups_of objects)
+    (record { 0 = destination })
 group_there destination [] = refl
 group_there destination (object ∷ objects) =
     ap (λ rest. (object.group.0 == destination) || rest) (group_there destination objects)
@@ -102,11 +105,14 @@ keeps_on_lanes address rows objects senders t mark asked kept is_for is_kept =
     (on_channel None (channel_in rows t) (λ c. kept_on rows mark number c t)) is_kept in
     let found = of_channel (channel_in rows t) kept (λ c. kept_on rows mark number c t) entered.1 in
     let c = found.0 in
-    let opened = unless_failed (is_some (first_failing (code_checks rows number c t))) kept (kept_of mark number c t) found.2 in
-    let passed = third_passes (check_code (key_on rows c) number t) (check_payload number t (apdu_in (key_on rows c) number t))
+    let opened =
+    unless_failed (is_some (first_failing (code_checks rows number c t))) kept (kept_of mark number c t) found.2 in
+    let passed =
+    third_passes (check_code (key_on rows c) number t) (check_payload number t (apdu_in (key_on rows c) number t))
     (check_sender rows c t) opened.0 in
     let may = both (is_some (role_of rows c (source_of t))) (receiver_may rows t.destination c)
-    (sender_passes (is_some (role_of rows c (source_of t)) && receiver_may rows t.destination c) verdict.Sender passed) in
+    (sender_passes (is_some (role_of rows c (source_of t)) && receiver_may rows t.destination c) verdict.Sender
+    passed) in
     let lane = kept_where (sync_service t == 2) (nat_lt mark number) (lane_of c (source_of t)) number kept opened.1 in
     subst (λ l. has_lane (lanes_of rows address (groups_of objects)) l ≡ true) lane
     (senders (is_group t) (has_tool_access t) (source_of t) t.destination c

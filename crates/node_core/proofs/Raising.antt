@@ -47,7 +47,8 @@ drawing_by : (none_left : Bool) (frame : ℕ → List ℕ) (s : Standing)
 drawing_by true frame s = refl
 drawing_by false frame s = refl
 
-under_key_raised : (key : Option (List ℕ)) (frame : List ℕ → ℕ → List ℕ) (s : Standing) → LeavesRaised (under_key key frame s) s
+under_key_raised : (key : Option (List ℕ)) (frame : List ℕ → ℕ → List ℕ) (s : Standing)
+    → LeavesRaised (under_key key frame s) s
 under_key_raised None frame s = refl
 under_key_raised (Some key) frame s = drawing_by (s.next == 2 ^ 48) (frame key) s
 
@@ -58,7 +59,8 @@ on_channel_raised c s (Some channel) frame = under_key_raised (key_of c.rows cha
 
 -- ---- sending
 
-group_raised : (c : ConfigState) (s : Standing) (group : GroupAddr) (apdu : List ℕ) → LeavesRaised (group_transition c s group apdu) s
+group_raised : (c : ConfigState) (s : Standing) (group : GroupAddr) (apdu : List ℕ)
+    → LeavesRaised (group_transition c s group apdu) s
 group_raised c s group apdu =
     on_channel_raised c s (Some (channel.Group group))
     (λ key number. sealed_frame key (data_head c.address group.0 true (group_field c group) number) apdu)
@@ -68,9 +70,11 @@ flag_raised : (transmits : Bool) (c : ConfigState) (s : Standing) (group : Group
 flag_raised true c s group apdu = group_raised c s group apdu
 flag_raised false c s group apdu = refl
 
-object_raised : (c : ConfigState) (s : Standing) (row : Option ObjectRow) (value : Option ObjectValue) (service : SendService)
+object_raised : (c : ConfigState) (s : Standing) (row : Option ObjectRow) (value : Option ObjectValue)
+    (service : SendService)
     → LeavesRaised (object_transition c s row value service) s
-object_raised c s (Some row) (Some value) service = flag_raised row.flags.transmits c s row.group (service_apdu service value)
+object_raised c s (Some row) (Some value) service =
+    flag_raised row.flags.transmits c s row.group (service_apdu service value)
 object_raised c s (Some row) None service = refl
 object_raised c s None value service = refl
 
@@ -78,9 +82,11 @@ pub send_raised : (c : ConfigState) (s : Standing) (object : ℕ) (service : Sen
     → LeavesRaised (send_transition c s object service) s
 send_raised c s object service = object_raised c s (slice_get c.objects object) (slice_get s.values object) service
 
-pub tool_raised : (c : ConfigState) (s : Standing) (to : IndAddr) (apdu : List ℕ) → LeavesRaised (tool_transition c s to apdu) s
+pub tool_raised : (c : ConfigState) (s : Standing) (to : IndAddr) (apdu : List ℕ)
+    → LeavesRaised (tool_transition c s to apdu) s
 tool_raised c s to apdu =
-    on_channel_raised c s (device_channel c to) (λ key number. sealed_frame key (data_head c.address to.0 false tool_field number) apdu)
+    on_channel_raised c s (device_channel c to) (λ key number. sealed_frame key
+    (data_head c.address to.0 false tool_field number) apdu)
 
 pending_numbers : (sent : Result ℕ SendFault) (challenge : OpenChallenge) (s : Standing)
     → (with_pending sent challenge s).numbers ≡ s.numbers
@@ -97,37 +103,45 @@ ask_raised c s to challenge =
 
 -- ---- receiving
 
-reply_raised : (c : ConfigState) (s : Standing) (number : ℕ) (lane : Lane) (object : ℕ) (group : GroupAddr) (value : Option ObjectValue)
+reply_raised : (c : ConfigState) (s : Standing) (number : ℕ) (lane : Lane) (object : ℕ) (group : GroupAddr)
+    (value : Option ObjectValue)
     → LeavesRaised (reply_transition c s number lane object group value) s
 reply_raised c s number lane object group (Some value) = group_raised c s group (service_apdu service.Response value)
 reply_raised c s number lane object group None = refl
 
-effect_raised : (c : ConfigState) (s : Standing) (number : ℕ) (lane : Lane) (object : ℕ) (row : ObjectRow) (effect : Result Effect BadObject)
+effect_raised : (c : ConfigState) (s : Standing) (number : ℕ) (lane : Lane) (object : ℕ) (row : ObjectRow)
+    (effect : Result Effect BadObject)
     → LeavesRaised (effect_transition c s number lane object row effect) s
 effect_raised c s number lane object row (Err bad) = refl
-effect_raised c s number lane object row (Ok effect.Read) = reply_raised c s number lane object row.group (slice_get s.values object)
+effect_raised c s number lane object row (Ok effect.Read) =
+    reply_raised c s number lane object row.group (slice_get s.values object)
 effect_raised c s number lane object row (Ok (effect.Write value)) = refl
 effect_raised c s number lane object row (Ok (effect.Response value)) = refl
 
-row_raised : (c : ConfigState) (s : Standing) (number : ℕ) (lane : Lane) (object : ℕ) (apdu : List ℕ) (row : Option ObjectRow)
+row_raised : (c : ConfigState) (s : Standing) (number : ℕ) (lane : Lane) (object : ℕ) (apdu : List ℕ)
+    (row : Option ObjectRow)
     → LeavesRaised (row_transition c s number lane object apdu row) s
 row_raised c s number lane object apdu (Some row) = effect_raised c s number lane object row (accepted row apdu)
 row_raised c s number lane object apdu None = refl
 
-act_raised : (c : ConfigState) (s : Standing) (to : Addressee) (lane : Lane) (number : ℕ) (service : Service) (apdu : List ℕ)
+act_raised : (c : ConfigState) (s : Standing) (to : Addressee) (lane : Lane) (number : ℕ) (service : Service)
+    (apdu : List ℕ)
     → LeavesRaised (act_transition c s to lane number service apdu) s
 act_raised c s Device lane number service apdu = refl
-act_raised c s (Object object) lane number service apdu = row_raised c s number lane object apdu (slice_get c.objects object)
+act_raised c s (Object object) lane number service apdu =
+    row_raised c s number lane object apdu (slice_get c.objects object)
 
 answer_raised : (c : ConfigState) (s : Standing) (to : IndAddr) (challenge : List ℕ) (kept : ℕ)
     → LeavesRaised (answer_transition c s to challenge kept) s
 answer_raised c s to challenge kept =
     on_channel_raised c s (device_channel c to) (λ key number. answer_frame key c.address to number challenge kept)
 
-verdict_raised : (c : ConfigState) (s : Standing) (source : IndAddr) (to : Addressee) (lane : Lane) (apdu : List ℕ) (said : Verdict)
+verdict_raised : (c : ConfigState) (s : Standing) (source : IndAddr) (to : Addressee) (lane : Lane) (apdu : List ℕ)
+    (said : Verdict)
     → LeavesRaised (verdict_transition c s source to lane apdu said) s
 verdict_raised c s source to lane apdu (verdict.Accepted number service) = act_raised c s to lane number service apdu
-verdict_raised c s source to lane apdu (verdict.SyncAsk number challenge) = answer_raised c s source challenge (mark_told c s source lane)
+verdict_raised c s source to lane apdu (verdict.SyncAsk number challenge) =
+    answer_raised c s source challenge (mark_told c s source lane)
 verdict_raised c s source to lane apdu (verdict.SyncAnswer number kept) = refl
 verdict_raised c s source to lane apdu (verdict.NotFrame _) = refl
 verdict_raised c s source to lane apdu (verdict.Control _) = refl
@@ -157,7 +171,8 @@ lane_raised c s to t lane =
     let apdu = opened_by c.rows asked t in
     let said = verdict_of c.rows mark asked t in
     verdict_raised c (raised raises s) (source_of t) to lane apdu said
-    ∙ sym (after_append raises (verdict_transition c (raised raises s) (source_of t) to lane apdu said).raises s.numbers)
+    ∙ sym (after_append raises (verdict_transition c (raised raises s) (source_of t) to lane apdu said).raises
+    s.numbers)
 
 telegram_raised : (c : ConfigState) (s : Standing) (t : Telegram) (to : Addressee) (lane : Option Lane)
     → LeavesRaised (telegram_transition c s t to lane) s
@@ -169,7 +184,8 @@ addressed_raised : (c : ConfigState) (s : Standing) (t : Telegram) (to : Option 
 addressed_raised c s t None = refl
 addressed_raised c s t (Some to) = telegram_raised c s t to (lane_in c.rows t)
 
-frame_raised : (c : ConfigState) (s : Standing) (fault : Option NotFrame) (t : Telegram) → LeavesRaised (frame_transition c s fault t) s
+frame_raised : (c : ConfigState) (s : Standing) (fault : Option NotFrame) (t : Telegram)
+    → LeavesRaised (frame_transition c s fault t) s
 frame_raised c s (Some fault) t = refl
 frame_raised c s None t = addressed_raised c s t (addressee c t)
 

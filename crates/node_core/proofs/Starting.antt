@@ -40,11 +40,15 @@ pub unformatted_as : {lanes lanes' : ℕ} {octets : List ℕ} {a b : Option Stor
     → ((place : ℕ) → (a ≡ Some (Unformatted place)) ↔ (IsUnformattedAt lanes octets place × (has_read a ≡ true)))
     → (place : ℕ) → (b ≡ Some (Unformatted place)) ↔ (IsUnformattedAt lanes' octets place × (has_read b ≡ true))
 unformatted_as {lanes = lanes} {octets = octets} {b = b} same_lanes same before =
-    subst (λ n. (place : ℕ) → (b ≡ Some (Unformatted place)) ↔ (IsUnformattedAt n octets place × (has_read b ≡ true))) same_lanes
-    (subst (λ r. (place : ℕ) → (r ≡ Some (Unformatted place)) ↔ (IsUnformattedAt lanes octets place × (has_read r ≡ true))) same before)
+    subst (λ n. (place : ℕ) → (b ≡ Some (Unformatted place)) ↔ (IsUnformattedAt n octets place × (has_read b ≡ true)))
+    same_lanes
+    (subst (λ r. (place : ℕ) → (r ≡ Some (Unformatted place))
+    ↔ (IsUnformattedAt lanes octets place × (has_read r ≡ true))) same before)
 
 -- ---- objects at their start
 
-pub values_at_start : (held : ObjectsState) (rows : List ObjectRow) → held ≡ at_start rows → length held.values ≡ length held.rows
+pub values_at_start : (held : ObjectsState) (rows : List ObjectRow) → held ≡ at_start rows
+    → length held.values ≡ length held.rows
 values_at_start held rows is =
-    ap (λ (o : ObjectsState). length o.values) is ∙ length-map rows (λ (row : ObjectRow). row.value) ∙ sym (ap (λ (o : ObjectsState). length o.rows) is)
+    ap (λ (o : ObjectsState). length o.values) is ∙ length-map rows (λ (row : ObjectRow). row.value)
+    ∙ sym (ap (λ (o : ObjectsState). length o.rows) is)

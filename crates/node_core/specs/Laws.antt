@@ -28,7 +28,8 @@ KeepsOnLanes c =
     → is_some (addressee c t) ≡ true → kept_by c.rows mark asked t ≡ Some kept → has_lane c.lanes kept.0 ≡ true
 
 -- The mark of this lane, which is one of the node's, is below this number, and is raised to it before all else.
-pub record IsRaisedFirst (c : ConfigState) (s : Standing) (t : Transition Outcome) (lane : Lane) (number : ℕ) : Type 0 where
+pub record IsRaisedFirst (c : ConfigState) (s : Standing) (t : Transition Outcome) (lane : Lane)
+    (number : ℕ) : Type 0 where
   pub place : ℕ
   pub place_is : place_in c lane ≡ Some place
   pub above : slice_index s.numbers.marks place < number

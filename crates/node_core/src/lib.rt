@@ -19,4 +19,4 @@ mod tests;
 pub use config::Config;
 pub use fault::{ConfigFault, SendFault, StartRefused};
 pub use node::Node;
-pub use outcome::{Act, Outcome};
+pub use outcome::{Act, Addressee, Outcome};

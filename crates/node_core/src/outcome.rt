@@ -58,9 +58,11 @@ pub enum Act {
     },
 }
 
-// Whom a frame is for: the node itself, or the object at this place.
-#[derive(Clone, Copy)]
-pub(crate) enum Addressee {
+/// Whom a frame is for at a node. The definition of what a node does with a frame goes by it.
+#[derive(Clone, Copy, Debug, PartialEq, Eq)]
+pub enum Addressee {
+    /// The node itself.
     Device,
+    /// The object at this place, by its group.
     Object(usize),
 }

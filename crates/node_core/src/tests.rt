@@ -294,8 +294,8 @@ fn over_other(alloc: Global, config: Config) -> Result<Node<FailingNvm>, Fail> {
     Ok(node_over(alloc, config, memory)?.ok_or("a node")?)
 }
 
-// The button asks the lamp, takes its answer once, and goes on above the number that the lamp kept. A read of its object,
-// which only transmits, is refused and kept.
+// The button asks the lamp, takes its answer once, and goes on above the number that the lamp kept. A read of its
+// object, which only transmits, is refused and kept.
 #[test]
 fn a_button_catches_up(rt: HostRuntime) -> Result<(), Fail> {
     let alloc = rt.alloc();
@@ -406,8 +406,8 @@ fn a_stop_comes_before_the_act(rt: HostRuntime) -> Result<(), Fail> {
     Ok(())
 }
 
-// Whether a node is stopped where this call of its memory fails. It is not made, or it acts and runs on, or it is stopped
-// before it acts.
+// Whether a node is stopped where this call of its memory fails. It is not made, or it acts and runs on, or it is
+// stopped before it acts.
 fn stops_at(alloc: Global, call: u64) -> Result<bool, Fail> {
     let config = lamp(alloc)?;
     let memory = FailingNvm::new(alloc, store_size(config.lanes().len()), call, 0xa5)?;

@@ -7,16 +7,20 @@ use Rattle.nvm_model.specs.declared.fault.NvmFault.{NvmFault}
 use Rattle.nvm_model.specs.declared.plan.Plan.{Plan}
 
 -- a whole write keeps the size
-pub length-put : (w : Write) (octets : List ℕ) → w.at + length w.bytes ≤ length octets → length (put w octets) ≡ length octets
+pub length-put : (w : Write) (octets : List ℕ) → w.at + length w.bytes ≤ length octets
+    → length (put w octets) ≡ length octets
 length-put w octets inside = grind (arith, common_steps)
 
-pub put_before : (w : Write) (octets : List ℕ) (k : ℕ) → w.at + length w.bytes ≤ length octets → k < w.at → slice_index (put w octets) k ≡ slice_index octets k
+pub put_before : (w : Write) (octets : List ℕ) (k : ℕ) → w.at + length w.bytes ≤ length octets → k < w.at
+    → slice_index (put w octets) k ≡ slice_index octets k
 put_before w octets k inside before = grind (arith, common_steps)
 
-pub put_after : (w : Write) (octets : List ℕ) (k : ℕ) → w.at + length w.bytes ≤ length octets → w.at + length w.bytes ≤ k → slice_index (put w octets) k ≡ slice_index octets k
+pub put_after : (w : Write) (octets : List ℕ) (k : ℕ) → w.at + length w.bytes ≤ length octets
+    → w.at + length w.bytes ≤ k → slice_index (put w octets) k ≡ slice_index octets k
 put_after w octets k inside after = grind (arith, common_steps)
 
-pub put_inside : (w : Write) (octets : List ℕ) (k : ℕ) → w.at + length w.bytes ≤ length octets → k < length w.bytes → slice_index (put w octets) (w.at + k) ≡ slice_index w.bytes k
+pub put_inside : (w : Write) (octets : List ℕ) (k : ℕ) → w.at + length w.bytes ≤ length octets → k < length w.bytes
+    → slice_index (put w octets) (w.at + k) ≡ slice_index w.bytes k
 put_inside w octets k inside in_range = grind (arith, common_steps)
 
 -- a whole write is one way to tear it
@@ -53,7 +57,11 @@ written-append (w ∷ xs) ys octets = written-append xs ys (put w octets)
 
 pub reached_front : (xs ys : List Write) (a c : List ℕ) → Reached xs a c → Reached (xs ++ ys) a c
 reached_front [] [] a c is = is
-reached_front [] (y ∷ ys) a c is = inl (record { size = ap length is; before = λ k _. ap (λ o. slice_index o k) is; after = λ k _. ap (λ o. slice_index o k) is })
+reached_front [] (y ∷ ys) a c is = inl (record {
+  size = ap length is;
+  before = λ k _. ap (λ o. slice_index o k) is;
+  after = λ k _. ap (λ o. slice_index o k) is;
+})
 reached_front (w ∷ xs) ys a c (inl torn) = inl torn
 reached_front (w ∷ xs) ys a c (inr later) = inr (reached_front xs ys (put w a) c later)
 
@@ -83,12 +91,14 @@ reached_whole (w ∷ xs) a = inr (reached_whole xs (put w a))
 
 and_then_again : (answer : Option NvmFault) (octets : List ℕ) (plan : Plan) (both first next : Plan → List ℕ → Struck)
     → ((p : Plan) (o : List ℕ) → both p o ≡ and_then (first p o) next)
-    → and_then (record { answer = answer; octets = octets; plan = plan }) both ≡ and_then (and_then (record { answer = answer; octets = octets; plan = plan }) first) next
+    → and_then (record { answer = answer; octets = octets; plan = plan }) both
+    ≡ and_then (and_then (record { answer = answer; octets = octets; plan = plan }) first) next
 and_then_again None octets plan both first next same = same plan octets
 and_then_again (Some fault) octets plan both first next same = refl
 
 -- Strikes compose: of two lists in turn, the second is made where the first is answered Ok.
-pub strike-append : (xs ys : List Write) (plan : Plan) (octets : List ℕ) → strike (xs ++ ys) plan octets ≡ and_then (strike xs plan octets) (strike ys)
+pub strike-append : (xs ys : List Write) (plan : Plan) (octets : List ℕ)
+    → strike (xs ++ ys) plan octets ≡ and_then (strike xs plan octets) (strike ys)
 strike-append [] ys plan octets = refl
 strike-append (w ∷ xs) ys plan octets =
     let s : Struck = strike_one w plan octets in
@@ -99,12 +109,15 @@ pub and_then_whole : (answer : Option NvmFault) (octets : List ℕ) (plan : Plan
 and_then_whole None octets plan next whole = refl
 and_then_whole (Some fault) octets plan next whole = absurd cc
 
-pub and_then_stopped : (answer : Option NvmFault) (octets : List ℕ) (plan : Plan) (next : Plan → List ℕ → Struck) (fault : NvmFault)
-    → Some fault ≡ answer → and_then (record { answer = answer; octets = octets; plan = plan }) next ≡ record { answer = answer; octets = octets; plan = plan }
+pub and_then_stopped : (answer : Option NvmFault) (octets : List ℕ) (plan : Plan) (next : Plan → List ℕ → Struck)
+    (fault : NvmFault)
+    → Some fault ≡ answer → and_then (record { answer = answer; octets = octets; plan = plan }) next
+    ≡ record { answer = answer; octets = octets; plan = plan }
 and_then_stopped None octets plan next fault stopped = absurd cc
 and_then_stopped (Some _) octets plan next fault stopped = refl
 
 -- With nothing armed each write is whole.
-pub strike_unarmed : (writes : List Write) (octets : List ℕ) → strike writes unarmed octets ≡ record { answer = None; octets = written writes octets; plan = unarmed }
+pub strike_unarmed : (writes : List Write) (octets : List ℕ)
+    → strike writes unarmed octets ≡ record { answer = None; octets = written writes octets; plan = unarmed }
 strike_unarmed [] octets = refl
 strike_unarmed (w ∷ writes) octets = strike_unarmed writes (put w octets)

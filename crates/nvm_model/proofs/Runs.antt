@@ -9,7 +9,8 @@ use Rattle.nvm_model.specs.declared.plan.Plan.{Plan}
 use Rattle.nvm_model.proofs.Lists.{written-append, reached_front, reached_back, reached_whole, reached_part, part_front, part_back, strike-append, and_then_whole, and_then_stopped, torn_same, strike_unarmed}
 
 -- after a call that was answered Ok
-cause_goes_on : {answer : Option NvmFault} {a b c : State} → HasNvmCause None a b → HasNvmCause answer b c → HasNvmCause answer a c
+cause_goes_on : {answer : Option NvmFault} {a b c : State} → HasNvmCause None a b → HasNvmCause answer b c
+    → HasNvmCause answer a c
 cause_goes_on first then = record {
   faults = omega arith;
   cuts = omega arith;
@@ -20,7 +21,8 @@ cause_goes_on first then = record {
   power = then.power;
 }
 
-leaves_goes_on : (xs ys : List Write) (answer : Option NvmFault) (a b c : List ℕ) → b ≡ written xs a → Leaves ys answer b c → Leaves (xs ++ ys) answer a c
+leaves_goes_on : (xs ys : List Write) (answer : Option NvmFault) (a b c : List ℕ) → b ≡ written xs a
+    → Leaves ys answer b c → Leaves (xs ++ ys) answer a c
 leaves_goes_on xs ys None a b c whole leaves = leaves ∙ ap (written ys) whole ∙ sym (written-append xs ys a)
 leaves_goes_on xs ys (Some _) a b c whole part = part_back xs ys a c (subst (λ o. PartWritten ys o c) whole part)
 
@@ -30,7 +32,8 @@ struck_goes_on : {answer : Option NvmFault} {c : State} (xs ys : List Write) (pl
 struck_goes_on xs ys plan a b first then =
     let s : Struck = strike xs plan a.octets in
     let same : strike (xs ++ ys) plan a.octets ≡ strike ys s.plan b.octets =
-    strike-append xs ys plan a.octets ∙ and_then_whole s.answer s.octets s.plan (strike ys) first.answered ∙ ap (strike ys s.plan) (sym first.octets) in
+    strike-append xs ys plan a.octets ∙ and_then_whole s.answer s.octets s.plan (strike ys) first.answered
+    ∙ ap (strike ys s.plan) (sym first.octets) in
     record {
       answered = then.answered ∙ ap (λ (s : Struck). s.answer) (sym same);
       octets = then.octets ∙ ap (λ (s : Struck). s.octets) (sym same);
@@ -120,7 +123,8 @@ makes_after_read {writes = writes} {answer = answer} {a = a} {b = b} {c = c} fir
   off = λ off. absurd (cc (first.cause.off off));
   off_plan = λ off. absurd (cc (first.cause.off off));
   told = λ plan is on.
-      subst (λ o. IsStruck (strike writes plan o) answer c) first.octets (then.told plan (first.plan ∙ is) first.cause.power);
+      subst (λ o. IsStruck (strike writes plan o) answer c) first.octets
+      (then.told plan (first.plan ∙ is) first.cause.power);
 }
 
 -- A read that was not answered Ok: no write is made.
@@ -143,18 +147,25 @@ ok_of (Ok _) is = refl
 ok_of (Err _) is = absurd cc
 
 -- Where the memory tells that nothing is armed, and power is on, nothing strikes.
-pub makes_unarmed : {T : Type 0} {writes : List Write} {a b : State} {p q : ℕ → List ℕ → Type 0} (result : Result T NvmFault)
-    → Makes writes (fault_of result) a b p q → a.plan ≡ Some unarmed → a.powered ≡ true → IsOk result × (b.plan ≡ Some unarmed)
+pub makes_unarmed : {T : Type 0} {writes : List Write} {a b : State} {p q : ℕ → List ℕ → Type 0}
+    (result : Result T NvmFault)
+    → Makes writes (fault_of result) a b p q → a.plan ≡ Some unarmed → a.powered ≡ true → IsOk result
+    × (b.plan ≡ Some unarmed)
 makes_unarmed {writes = writes} {a = a} result made is on =
     let struck = made.told unarmed is on in
-    let same = strike_unarmed writes a.octets in
-    (ok_of result (struck.answered ∙ ap (λ (s : Struck). s.answer) same), struck.plan ∙ ap (λ (s : Struck). Some s.plan) same)
+    let same = strike_unarmed writes a.octets in (
+      ok_of result (struck.answered ∙ ap (λ (s : Struck). s.answer) same),
+      struck.plan
+          ∙ ap (λ (s : Struck). Some s.plan) same,
+    )
 
-reached_leaves : (writes : List Write) (answer : Option NvmFault) (a b : List ℕ) → Leaves writes answer a b → Reached writes a b
+reached_leaves : (writes : List Write) (answer : Option NvmFault) (a b : List ℕ) → Leaves writes answer a b
+    → Reached writes a b
 reached_leaves writes None a b whole = subst (Reached writes a) (sym whole) (reached_whole writes a)
 reached_leaves writes (Some _) a b part = reached_part writes a b part
 
 -- What is there after the writes, whatever they were answered, is one of their moments.
 pub makes_reached : {writes : List Write} {answer : Option NvmFault} {a b : State} {p q : ℕ → List ℕ → Type 0}
     → Makes writes answer a b p q → Reached writes a.octets b.octets
-makes_reached {writes = writes} {answer = answer} {a = a} {b = b} made = reached_leaves writes answer a.octets b.octets made.octets
+makes_reached {writes = writes} {answer = answer} {a = a} {b = b} made =
+    reached_leaves writes answer a.octets b.octets made.octets

@@ -22,8 +22,8 @@ open_write gate = record { at = gate; bytes = open_octet ∷ [] }
 abbrev pub opening_writes : ℕ → List ℕ → List Write
 opening_writes gate body = body_write gate body ∷ open_write gate ∷ []
 
--- Behind a gate that is open or is not. An open gate is shut first. One that is not open is left alone until it is opened,
--- since a write of it that is torn could open it over what is behind it.
+-- Behind a gate that is open or is not. An open gate is shut first. One that is not open is left alone until it is
+-- opened, since a write of it that is torn could open it over what is behind it.
 abbrev pub gated_writes : ℕ → Bool → List ℕ → List Write
 gated_writes gate true body = shut_write gate ∷ opening_writes gate body
 gated_writes gate false body = opening_writes gate body

@@ -13,6 +13,7 @@ only_last clock at n octets image (inl is) = is
 only_last clock at n octets image (inr (earlier, _)) = absurd (omega (arith, earlier))
 
 -- all have one size
-pub size_last : (t clock at n : ℕ) (octets image : List ℕ) → IsSinceLast t clock at n octets image → length image ≡ length octets
+pub size_last : (t clock at n : ℕ) (octets image : List ℕ) → IsSinceLast t clock at n octets image
+    → length image ≡ length octets
 size_last t clock at n octets image (inl is) = ap length is
 size_last t clock at n octets image (inr (_, torn)) = torn.size

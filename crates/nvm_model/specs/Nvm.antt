@@ -39,8 +39,8 @@ is_on_after None = true
 is_on_after (Some Failed) = true
 is_on_after (Some Cut) = false
 
--- Each fault has its cause: Failed a count of faults that rose in this call, Cut a count of cuts that did, or power that was off.
--- Ok leaves both counts as they were.
+-- Each fault has its cause: Failed a count of faults that rose in this call, Cut a count of cuts that did, or power
+-- that was off. Ok leaves both counts as they were.
 pub record HasNvmCause (answer : Option NvmFault) (old new : State) : Type 0 where
   pub faults : old.faults ≤ new.faults
   pub cuts : old.cuts ≤ new.cuts
@@ -51,7 +51,8 @@ pub record HasNvmCause (answer : Option NvmFault) (old new : State) : Type 0 whe
   pub off : old.powered ≡ false → answer ≡ Some Cut
   pub power : new.powered ≡ is_on_after answer
 
--- For each clock value up to this one, every image since it after a call is an image since it before the call, or has P.
+-- For each clock value up to this one, every image since it after a call is an image since it before the call, or has
+-- P.
 abbrev pub LeavesOnly : ℕ → (ℕ → List ℕ → Type 0) → (ℕ → List ℕ → Type 0) → (List ℕ → Type 0) → Type 0
 LeavesOnly clock past since P = (t : ℕ) (c : List ℕ) → t ≤ clock → since t c → past t c ⊎ P c
 
@@ -80,7 +81,8 @@ pub record IsStruck (struck : Struck) (answer : Option NvmFault) (new : State) :
   pub plan : new.plan ≡ Some struck.plan
 
 -- These writes in turn, up to the first that is not answered Ok. A single write is the list of one.
-pub record Makes (writes : List Write) (answer : Option NvmFault) (old new : State) (past since : ℕ → List ℕ → Type 0) : Type 0 where
+pub record Makes (writes : List Write) (answer : Option NvmFault) (old new : State)
+    (past since : ℕ → List ℕ → Type 0) : Type 0 where
   pub cause : HasNvmCause answer old new
   -- the clock counts at most the writes
   pub later : old.clock ≤ new.clock
@@ -91,4 +93,5 @@ pub record Makes (writes : List Write) (answer : Option NvmFault) (old new : Sta
   pub off : old.powered ≡ false → new.octets ≡ old.octets
   pub off_plan : old.powered ≡ false → new.plan ≡ old.plan
   -- where the plan is told, and power is on
-  pub told : (plan : Plan) → old.plan ≡ Some plan → old.powered ≡ true → IsStruck (strike writes plan old.octets) answer new
+  pub told : (plan : Plan) → old.plan ≡ Some plan → old.powered ≡ true
+      → IsStruck (strike writes plan old.octets) answer new

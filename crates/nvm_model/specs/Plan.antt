@@ -32,7 +32,8 @@ torn_to torn w = record { at = w.at; bytes = replicate (length w.bytes) torn }
 -- The cut comes first where both strike.
 abbrev pub struck_by : Option ℕ → Option ℕ → Write → Plan → List ℕ → Struck
 struck_by (Some torn) _ w plan octets = record { answer = Some Cut; octets = put (torn_to torn w) octets; plan = plan }
-struck_by None (Some torn) w plan octets = record { answer = Some Failed; octets = put (torn_to torn w) octets; plan = plan }
+struck_by None (Some torn) w plan octets =
+    record { answer = Some Failed; octets = put (torn_to torn w) octets; plan = plan }
 struck_by None None w plan octets = record { answer = None; octets = put w octets; plan = plan }
 
 abbrev pub strike_one : Write → Plan → List ℕ → Struck

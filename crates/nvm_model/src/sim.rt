@@ -145,7 +145,8 @@ impl Nvm for SimNvm {
         requires inside { at + length out.old ≤ length (sim_state self.old).octets }
         requires not_empty { 0 < length out.old }
         ensures octets { OnOk result (out.new ≡ slice_range (sim_state self.old).octets at (at + length out.old)) }
-        ensures reads { Reads (fault_of result) (sim_state self.old) (sim_state self.new) (sim_images self.old) (sim_images self.new) }
+        ensures reads { Reads (fault_of result) (sim_state self.old) (sim_state self.new) (sim_images self.old)
+            (sim_images self.new) }
         ensures same { sim_state self.new ≡ sim_state self.old }
         ensures untouched { OnErr result (out.new ≡ out.old) }
     {

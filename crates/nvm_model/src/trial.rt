@@ -26,8 +26,8 @@ pub struct FailingNvm {
 }
 
 impl FailingNvm {
-    /// A memory of this many octets, all zero. Its `call`-th read or write fails, and a write that fails leaves `torn` in its
-    /// whole range. At 0 none fails.
+    /// A memory of this many octets, all zero. Its `call`-th read or write fails, and a write that fails leaves `torn`
+    /// in its whole range. At 0 none fails.
     pub fn new(alloc: Global, size: usize, call: u64, torn: u8) -> Result<FailingNvm, NoMemory>
         ensures state { IfOk result (λ m. failing_state m ≡ record {
           octets = replicate size 0;
@@ -95,7 +95,8 @@ impl Nvm for FailingNvm {
         ensures fails { IsErr result ↔ (failing_call self.old ≡ 1) }
         ensures untouched { OnErr result (out.new ≡ out.old) }
         ensures counts { CountsCall self.old self.new }
-        ensures faults { (failing_state self.new).faults ≡ faults_after (fault_of result) (failing_state self.old).faults }
+        ensures faults { (failing_state self.new).faults ≡ faults_after (fault_of result)
+            (failing_state self.old).faults }
     {
         if self.is_struck() {
             self.faults = self.faults.saturating_add(1);
@@ -116,10 +117,12 @@ impl Nvm for FailingNvm {
             → failing_images self.new (failing_state self.old).clock image }
         ensures fails { IsErr result ↔ (failing_call self.old ≡ 1) }
         ensures torn { OnErr result ((failing_state self.new).octets
-            ≡ put (torn_to (failing_torn self.old) (record { at = at; bytes = bytes.now })) (failing_state self.old).octets) }
+            ≡ put (torn_to (failing_torn self.old) (record { at = at; bytes = bytes.now }))
+            (failing_state self.old).octets) }
         ensures counts { CountsCall self.old self.new }
         ensures counts_write { (failing_state self.new).clock ≡ counted (failing_state self.old).clock }
-        ensures faults { (failing_state self.new).faults ≡ faults_after (fault_of result) (failing_state self.old).faults }
+        ensures faults { (failing_state self.new).faults ≡ faults_after (fault_of result)
+            (failing_state self.old).faults }
     {
         let struck = self.is_struck();
         self.clock = self.clock.saturating_add(1);

@@ -38,6 +38,7 @@ shown (Err fault) = Err fault
 -- A PDU is spelled by the octets; Short says that they are fewer than two, UpperBits which first
 -- octet of at least four there is.
 abbrev pub IsInner : List ℕ → Result Inner BadApdu → Type 0
-IsInner octets (Ok found) = (bits : ℕ) × (content : List ℕ) × (bits < 1024) × (octets ≡ apdu_of bits content) × (found ≡ inner bits content)
+IsInner octets (Ok found) =
+    (bits : ℕ) × (content : List ℕ) × (bits < 1024) × (octets ≡ apdu_of bits content) × (found ≡ inner bits content)
 IsInner octets (Err Short) = length octets < 2
 IsInner octets (Err (UpperBits first)) = (4 ≤ first) × (2 ≤ length octets) × (rest : List ℕ) × (octets ≡ first ∷ rest)

@@ -9,7 +9,13 @@ use Rattle.script_text.specs.declared.said.Said.TheVariants as said
 pub none_drawn : (old : Before) (number count : ℕ) → old.events ≡ [] → IsDrawn old old number count 0 number 0
 none_drawn old number count none = record {
   past = [];
-  with_past = record { rows_are = refl; nodes_are = refl; objects_are = refl; marks_are = refl; events_are = sym (append-nil old.events) };
+  with_past = record {
+    rows_are = refl;
+    nodes_are = refl;
+    objects_are = refl;
+    marks_are = refl;
+    events_are = sym (append-nil old.events);
+  };
   follow = ap (λ n. events_made n 1 number 0) (omega arith);
   counted = omega arith;
 }
@@ -18,7 +24,8 @@ one_drawn : (left number state sends : ℕ) (event : Event) (later laterSends : 
     → IsMade (event_made number state sends) event later laterSends
     → events_made (suc left) number state sends ≡ event ∷ events_made left (number + 1) later laterSends
 one_drawn left number state sends event later laterSends is =
-    ap (λ e. e ∷ events_made left (number + 1) (event_made number state sends).state (event_made number state sends).sends) (sym is.event_is)
+    ap (λ e. e ∷ events_made left (number + 1) (event_made number state sends).state
+    (event_made number state sends).sends) (sym is.event_is)
     ∙ ap (λ s. event ∷ events_made left (number + 1) s (event_made number state sends).sends) (sym is.state_is)
     ∙ ap (λ s. event ∷ events_made left (number + 1) later s) (sym is.sends_are)
 
@@ -41,7 +48,8 @@ one_more_drawn old now new number count index state sends event later laterSends
             ∙ append_assoc old.events drawn.past (event ∷ []);
       };
       follow = append_assoc drawn.past (event ∷ []) (events_made (count - (index + 1)) (index + 1 + 1) later laterSends)
-          ∙ ap (λ events. drawn.past ++ events) (sym (one_drawn (count - (index + 1)) (index + 1) state sends event later laterSends made))
+          ∙ ap (λ events. drawn.past ++ events) (sym (one_drawn (count - (index + 1)) (index + 1) state sends event
+          later laterSends made))
           ∙ ap (λ n. drawn.past ++ events_made n (index + 1) state sends) (sym one)
           ∙ drawn.follow;
       counted = omega (arith, few, drawn.counted);
@@ -52,5 +60,6 @@ pub all_drawn : (old new : Before) (number count state sends : ℕ) → IsDrawn 
 all_drawn old new number count state sends drawn =
     let none : count - count ≡ 0 = omega arith in
     let past : drawn.past ≡ events_made count 1 number 0 =
-    sym (append-nil drawn.past) ∙ ap (λ n. drawn.past ++ events_made n (count + 1) state sends) (sym none) ∙ drawn.follow in
+    sym (append-nil drawn.past) ∙ ap (λ n. drawn.past ++ events_made n (count + 1) state sends) (sym none)
+    ∙ drawn.follow in
     subst (λ events. IsWithEvents old events new) past drawn.with_past

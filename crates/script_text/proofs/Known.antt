@@ -15,8 +15,10 @@ still_known before said.Head lanes stays known = λ some. record { are = (known 
 still_known before (said.Row row) lanes stays known = absurd cc
 still_known before (said.Node node) lanes stays known = absurd cc
 still_known before (said.Object object) lanes stays known = absurd cc
-still_known before (said.Mark mark) lanes stays known = λ some. record { are = (known some).are; few = (known some).few }
-still_known before (said.Event event) lanes stays known = λ some. record { are = (known some).are; few = (known some).few }
+still_known before (said.Mark mark) lanes stays known =
+    λ some. record { are = (known some).are; few = (known some).few }
+still_known before (said.Event event) lanes stays known =
+    λ some. record { are = (known some).are; few = (known some).few }
 
 pub none_known : (before : Before) → IsKnown before []
 none_known before = λ some. absurd (omega (arith, some))

@@ -28,7 +28,8 @@ pub without_colon : (text : List ℕ) → position_or_len is_colon text ≡ leng
 without_colon text none =
     let empty : after_first is_colon text ≡ [] = drop_of_length-le text (omega (arith, none)) in
     let lost : lane_device (after_first is_colon text) ≡ Err cause.Lane = ap lane_device empty ∙ ap sender_at nothing in
-    refused (individual_of (before_first is_colon text)) ∙ ap (lane_from (lane_device (before_first is_colon text))) (sym lost)
+    refused (individual_of (before_first is_colon text)) ∙ ap (lane_from (lane_device (before_first is_colon text)))
+    (sym lost)
 
 pub when_none : {A : Type 0} {P : Type 0} (Q : A → Type 0) (found : Option A) → found ≡ None → MatchOption found P Q → P
 when_none Q None is holds = holds

@@ -25,7 +25,8 @@ some_place : {A : Type 0} (xs : List A) (found : Option A) (at : Option ℕ) (pl
 some_place xs found None place is known = absurd cc
 some_place xs found (Some i) place is known = known ∙ ap (λ o. slice_get xs (unwrap_or o 0)) is
 
-no_place : {A : Type 0} (xs : List A) (found : Option A) (at : Option ℕ) → at ≡ None → FoundAt xs found at → found ≡ None
+no_place : {A : Type 0} (xs : List A) (found : Option A) (at : Option ℕ) → at ≡ None → FoundAt xs found at
+    → found ≡ None
 no_place xs found None is known = known
 no_place xs found (Some i) is known = absurd cc
 
@@ -34,5 +35,6 @@ pub found_there : {A E : Type 0} (why : E) (p : A → Bool) (xs : List A) (place
 found_there why p xs place x at there =
     ap (λ found. ok_or found why) (some_place xs (find p xs) (position p xs) place at (found_at p xs) ∙ there)
 
-pub found_nowhere : {A E : Type 0} (why : E) (p : A → Bool) (xs : List A) → position p xs ≡ None → ok_or (find p xs) why ≡ Err why
+pub found_nowhere : {A E : Type 0} (why : E) (p : A → Bool) (xs : List A) → position p xs ≡ None
+    → ok_or (find p xs) why ≡ Err why
 found_nowhere why p xs at = ap (λ found. ok_or found why) (no_place xs (find p xs) (position p xs) at (found_at p xs))

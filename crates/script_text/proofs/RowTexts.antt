@@ -13,7 +13,8 @@ use Rattle.script_text.specs.declared.said.Stage.TheVariants.{Rows}
 use Rattle.text_lines.specs.Lines.{line_of}
 use Rattle.key_tables.specs.Text.{line_says, row_in, row_of}
 
-pub line_row : (line : List ℕ) (words : List (List ℕ)) → line_of line ≡ Ok (Some words) → line_says line ≡ row_in (Some words)
+pub line_row : (line : List ℕ) (words : List (List ℕ)) → line_of line ≡ Ok (Some words)
+    → line_says line ≡ row_in (Some words)
 unfolding line_says
 line_row line words is = rw (is) refl
 

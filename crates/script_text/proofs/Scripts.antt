@@ -28,7 +28,8 @@ last_is stage [] line = refl
 last_is stage (first ∷ before) line = last_is (stage_of first) before line
 
 parts : (before : List Said) (line : Said) → before_of (before ++ line ∷ []) ≡ lists (stage_of line)
-    (filter_map row_in before ++ filter_map row_in (line ∷ [])) (filter_map node_in before ++ filter_map node_in (line ∷ []))
+    (filter_map row_in before ++ filter_map row_in (line ∷ []))
+    (filter_map node_in before ++ filter_map node_in (line ∷ []))
     (filter_map object_in before ++ filter_map object_in (line ∷ []))
     (filter_map mark_line_in before ++ filter_map mark_line_in (line ∷ []))
     (filter_map event_in before ++ filter_map event_in (line ∷ []))
@@ -59,14 +60,26 @@ module _ (before : List Said) where
   events_nil = append-nil (filter_map event_in before)
 
 one_more : (before : List Said) (line : Said) → added (before_of before) line ≡ before_of (before ++ line ∷ [])
-one_more before said.Head = sym (parts before said.Head ∙ rw (rows_nil before, nodes_nil before, objects_nil before, marks_nil before, events_nil before) refl)
-one_more before (said.Row row) = sym (parts before (said.Row row) ∙ rw (nodes_nil before, objects_nil before, marks_nil before, events_nil before) refl)
-one_more before (said.Node node) = sym (parts before (said.Node node) ∙ rw (rows_nil before, objects_nil before, marks_nil before, events_nil before) refl)
-one_more before (said.Object object) = sym (parts before (said.Object object) ∙ rw (rows_nil before, nodes_nil before, marks_nil before, events_nil before) refl)
-one_more before (said.Mark mark) = sym (parts before (said.Mark mark) ∙ rw (rows_nil before, nodes_nil before, objects_nil before, events_nil before) refl)
-one_more before (said.Event event) = sym (parts before (said.Event event) ∙ rw (rows_nil before, nodes_nil before, objects_nil before, marks_nil before) refl)
+one_more before said.Head = sym (parts before said.Head ∙ rw (
+  rows_nil before,
+  nodes_nil before,
+  objects_nil before,
+  marks_nil before,
+  events_nil before,
+) refl)
+one_more before (said.Row row) = sym (parts before (said.Row row)
+    ∙ rw (nodes_nil before, objects_nil before, marks_nil before, events_nil before) refl)
+one_more before (said.Node node) = sym (parts before (said.Node node)
+    ∙ rw (rows_nil before, objects_nil before, marks_nil before, events_nil before) refl)
+one_more before (said.Object object) = sym (parts before (said.Object object)
+    ∙ rw (rows_nil before, nodes_nil before, marks_nil before, events_nil before) refl)
+one_more before (said.Mark mark) = sym (parts before (said.Mark mark)
+    ∙ rw (rows_nil before, nodes_nil before, objects_nil before, events_nil before) refl)
+one_more before (said.Event event) = sym (parts before (said.Event event)
+    ∙ rw (rows_nil before, nodes_nil before, objects_nil before, marks_nil before) refl)
 
-more : (before : List Said) (says : Option Said) → added_if (before_of before) says ≡ before_of (before ++ option_to_list says)
+more : (before : List Said) (says : Option Said) → added_if (before_of before) says
+    ≡ before_of (before ++ option_to_list says)
 more before None = ap before_of (sym (append-nil before))
 more before (Some line) = one_more before line
 
@@ -94,7 +107,8 @@ module _ (text : List ℕ) (b : Before) (given number : ℕ) (line : List ℕ) (
 
   by_line : script_of text ≡ rest_of (at_line (given + 1) (line_said b number line))
   unfolding rest_of
-  by_line = read.goes_on ∙ ap (script_after read.before given) comes ∙ ap (λ found. rest_of (at_line (given + 1) found)) moved
+  by_line =
+      read.goes_on ∙ ap (script_after read.before given) comes ∙ ap (λ found. rest_of (at_line (given + 1) found)) moved
 
   pub line_taken : (new : Before) → TakesSaid b (line_said b number line) new → HasRead text new (given + 1) after
   unfolding rest_of
@@ -108,7 +122,8 @@ module _ (text : List ℕ) (b : Before) (given number : ℕ) (line : List ℕ) (
   unfolding rest_of
   refused fault is = by_line ∙ ap (λ n. rest_of (at_line n (line_said b number line))) (sym counted) ∙ ap rest_of is
 
-  pub line_refused : (why : ScriptFault) → IsLineFault why (at_line number (line_said b number line)) → IsTextFault why (script_of text)
+  pub line_refused : (why : ScriptFault) → IsLineFault why (at_line number (line_said b number line))
+      → IsTextFault why (script_of text)
   line_refused fault.NoMemory is = tt
   line_refused (fault.Line at cause) is = refused (fault.Line at cause) is
   line_refused (fault.Order at) is = refused (fault.Order at) is

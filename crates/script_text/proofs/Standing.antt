@@ -23,7 +23,8 @@ use Rattle.script_text.specs.declared.said.ObjectLine.{ObjectLine}
 
 module _ (before rows : List ObjectRow) (row new : ObjectRow) where
   goes_on : (b : Bool)
-      → (first_twice (before ++ row ∷ []) rows ≡ None → list_any (is_of new.group) ((before ++ row ∷ []) ++ rows) ≡ false
+      → (first_twice (before ++ row ∷ []) rows ≡ None → list_any (is_of new.group) ((before ++ row ∷ []) ++ rows)
+      ≡ false
       → first_twice (before ++ row ∷ []) (rows ++ new ∷ []) ≡ None)
       → cond b (Some (length before)) (first_twice (before ++ row ∷ []) rows) ≡ None
       → list_any (is_of new.group) (before ++ row ∷ rows) ≡ false
@@ -35,24 +36,29 @@ module _ (before rows : List ObjectRow) (row new : ObjectRow) where
 still_apart : (before rows : List ObjectRow) (new : ObjectRow) → first_twice before rows ≡ None
     → list_any (is_of new.group) (before ++ rows) ≡ false → first_twice before (rows ++ new ∷ []) ≡ None
 still_apart before [] new none apart =
-    let here : list_any (is_of new.group) before ≡ false = ap (list_any (is_of new.group)) (sym (append-nil before)) ∙ apart in
+    let here : list_any (is_of new.group) before ≡ false =
+    ap (list_any (is_of new.group)) (sym (append-nil before)) ∙ apart in
     rw (here) refl
 still_apart before (row ∷ rows) new none apart =
-    goes_on before rows row new (list_any (is_of row.group) before) (still_apart (before ++ row ∷ []) rows new) none apart
+    goes_on before rows row new (list_any (is_of row.group) before) (still_apart (before ++ row ∷ []) rows new) none
+    apart
 
-none_twice : (b : Bool) (found : Option ℕ) → cond b (Some fault.TooMany) (option_map fault.Twice found) ≡ None → found ≡ None
+none_twice : (b : Bool) (found : Option ℕ) → cond b (Some fault.TooMany) (option_map fault.Twice found) ≡ None
+    → found ≡ None
 none_twice true found none = absurd cc
 none_twice false None none = refl
 none_twice false (Some place) none = absurd cc
 
 one_more : (rows : List ObjectRow) (new : ObjectRow) → objects_fault rows ≡ None
-    → list_any (is_of new.group) rows ≡ false → nat_le most_rows (length rows) ≡ false → objects_fault (rows ++ new ∷ []) ≡ None
+    → list_any (is_of new.group) rows ≡ false → nat_le most_rows (length rows) ≡ false
+    → objects_fault (rows ++ new ∷ []) ≡ None
 one_more rows new none apart few =
     let below = leb-false most_rows (length rows) few in
     let size = length-append rows (new ∷ []) in
     let fits : nat_lt most_rows (length (rows ++ new ∷ [])) ≡ false =
     le-ltb most_rows (length (rows ++ new ∷ [])) (omega (arith, below, size)) in
-    rw (fits, still_apart [] rows new (none_twice (nat_lt most_rows (length rows)) (first_twice [] rows) none) apart) refl
+    rw (fits, still_apart [] rows new (none_twice (nat_lt most_rows (length rows)) (first_twice [] rows) none) apart)
+    refl
 
 -- ---- an object more
 
@@ -69,12 +75,16 @@ module _ (node : IndAddr) (row : ObjectRow) (line : ObjectLine) (lines : List Ob
 group_at : (node : IndAddr) (row : ObjectRow) (lines : List ObjectLine)
     → list_any (is_of row.group) (objects_at node lines) ≡ list_any (is_at node row) lines
 group_at node row [] = refl
-group_at node row (line ∷ lines) = here_too node row line lines (line.node.0 == node.0) None refl (group_at node row lines)
+group_at node row (line ∷ lines) =
+    here_too node row line lines (line.node.0 == node.0) None refl (group_at node row lines)
 
-module _ (lines : List ObjectLine) (line : ObjectLine) (stand : (node : IndAddr) → objects_fault (objects_at node lines) ≡ None)
-    (apart : list_any (is_same_object line) lines ≡ false) (few : nat_le most_rows (length (objects_at line.node lines)) ≡ false) where
+module _ (lines : List ObjectLine) (line : ObjectLine) (stand : (node : IndAddr)
+    → objects_fault (objects_at node lines) ≡ None)
+    (apart : list_any (is_same_object line) lines ≡ false) (few : nat_le most_rows (length (objects_at line.node lines))
+    ≡ false) where
   own_stand : objects_fault (objects_at line.node lines ++ line.row ∷ []) ≡ None
-  own_stand = one_more (objects_at line.node lines) line.row (stand line.node) (group_at line.node line.row lines ∙ apart) few
+  own_stand =
+      one_more (objects_at line.node lines) line.row (stand line.node) (group_at line.node line.row lines ∙ apart) few
 
   stands_at : (node : IndAddr) (b : Bool) → line.node.0 == node.0 ≡ b
       → objects_fault (objects_at node lines ++ objects_at node (line ∷ [])) ≡ None
@@ -96,7 +106,8 @@ objects_still_stand lines line stand apart few node =
 -- ---- a row of a tables file more
 
 module _ {A B : Type 0} (test : List A → A → Option B) where
-  both : (first : Option B) (later now : Option B) → option_or first later ≡ None → (later ≡ None → now ≡ None) → option_or first now ≡ None
+  both : (first : Option B) (later now : Option B) → option_or first later ≡ None → (later ≡ None → now ≡ None)
+      → option_or first now ≡ None
   both None later now none goes = goes none
   both (Some b) later now none goes = absurd cc
 
@@ -124,5 +135,6 @@ rows_still_stand rows now row is stand new = ap build_fault is ∙ rows_stand ro
 pub rows_still_named : (rows now : List Row) (row : Row) → now ≡ rows ++ row ∷ [] → list_any is_any rows ≡ false
     → is_any row ≡ false → list_any is_any now ≡ false
 rows_still_named rows now row is named new =
-    let both : list_any is_any (rows ++ row ∷ []) ≡ false = list_any-append is_any rows (row ∷ []) ∙ rw (named, new) refl in
+    let both : list_any is_any (rows ++ row ∷ []) ≡ false =
+    list_any-append is_any rows (row ∷ []) ∙ rw (named, new) refl in
     ap (list_any is_any) is ∙ both

@@ -51,7 +51,8 @@ module _ (node : IndAddr) (line : ObjectLine) (lines : List ObjectLine) where
       let all = All-cons HasGroup line.row (objects_at node lines) here later in rw (is) all
   own_group false is here later = rw (is) later
 
-groups_at : (node : IndAddr) (lines : List ObjectLine) → All (λ line. HasGroup line.row) lines → All HasGroup (objects_at node lines)
+groups_at : (node : IndAddr) (lines : List ObjectLine) → All (λ line. HasGroup line.row) lines
+    → All HasGroup (objects_at node lines)
 groups_at node [] all = All-nil HasGroup
 groups_at node (line ∷ lines) all =
     own_group node line lines (line.node.0 == node.0) refl (All-head (λ line. HasGroup line.row) line lines all)
@@ -68,12 +69,14 @@ marks_fit : (marks : List MarkLine) (node : IndAddr) (lanes : List Lane) → All
     → All Fits (map (mark_in marks node) lanes)
 marks_fit marks node lanes all =
     All-map Fits (mark_in marks node) lanes
-    (λ k d within. number_fits (find (is_mark_of node _) marks) (all_found (λ mark. Fits mark.number) (is_mark_of node _) marks all))
+    (λ k d within. number_fits (find (is_mark_of node _) marks)
+    (all_found (λ mark. Fits mark.number) (is_mark_of node _) marks all))
 
 -- ---- the nodes
 
 module _ (before : Before) (stand : Stand before) (few : crowded before ≡ None) where
-  is_node : (node : NodeLine) → IsNodeLine node → is_crowded before node ≡ false → IsNode before.rows (node_row before node)
+  is_node : (node : NodeLine) → IsNodeLine node → is_crowded before node ≡ false
+      → IsNode before.rows (node_row before node)
   is_node node is short = record {
     name = is.name;
     address = is.address;
@@ -88,7 +91,8 @@ module _ (before : Before) (stand : Stand before) (few : crowded before ≡ None
 
   all_nodes : All (IsNode before.rows) (map (node_row before) before.nodes)
   all_nodes = All-map (IsNode before.rows) (node_row before) before.nodes
-      (λ k d within. is_node _ (stand.nodes_are k d within) (none_found (is_crowded before) before.nodes few k d within))
+      (λ k d within. is_node _ (stand.nodes_are k d within) (none_found (is_crowded before) before.nodes few k d
+      within))
 
 -- ---- no two of one name or one address
 
@@ -106,7 +110,8 @@ other_name name other apart same = true≢false (sym (same_self other) ∙ ap (s
 other_number : (n m : ℕ) → m == n ≡ false → n ≡ m → ⊥
 other_number n m apart same = true≢false (sym (eq-eqb m n (sym same)) ∙ apart)
 
-are_two : (before : Before) (node other : NodeLine) → is_again other node ≡ false → AreTwoNodes (node_row before node) (node_row before other)
+are_two : (before : Before) (node other : NodeLine) → is_again other node ≡ false
+    → AreTwoNodes (node_row before node) (node_row before other)
 are_two before node other apart =
     let parts = neither (same_name other.name node.name) (other.address.0 == node.address.0) apart in
     record {
@@ -134,7 +139,8 @@ is_script before stand few = record {
   nodes_stand = all_nodes before stand few;
   nodes_once = two_nodes before before.nodes stand.nodes_once;
   nodes_few = subst (λ n. n ≤ 32) (sym (length-map before.nodes (node_row before))) stand.nodes_few;
-  events_stand = subst (λ n. All (IsEvent n) before.events) (sym (length-map before.nodes (node_row before))) stand.events_stand;
+  events_stand =
+      subst (λ n. All (IsEvent n) before.events) (sym (length-map before.nodes (node_row before))) stand.events_stand;
   events_few = stand.events_few;
 }
 

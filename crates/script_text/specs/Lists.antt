@@ -140,7 +140,8 @@ abbrev pub made_line : ℕ → NodeLine
 made_line node = record { line = 0; name = made_name node; address = made_address node; next = 1 }
 
 abbrev pub made_object_line : IndAddr → GroupAddr → ObjectValue → ObjectLine
-made_object_line node group value = record { node = node; row = record { group = group; flags = all_flags; value = value } }
+made_object_line node group value =
+    record { node = node; row = record { group = group; flags = all_flags; value = value } }
 
 abbrev pub HasObject : Before → ObjectLine → Before → Type 0
 HasObject old object new = new ≡ lists Nodes old.rows old.nodes (old.objects ++ object ∷ []) old.marks old.events

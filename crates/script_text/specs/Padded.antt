@@ -27,7 +27,8 @@ take_back room a is =
     let octets = take a.len a.store in
     let size = taken room a.len a.store is.fits is.size in
     ap (λ n. inside room (octets ++ replicate (room - n) 0) n) size
-    ∙ ap (λ store. inside room store a.len) (ap (λ zeros. octets ++ zeros) (sym is.zeros) ∙ take-append-drop a.len a.store)
+    ∙ ap (λ store. inside room store a.len) (ap (λ zeros. octets ++ zeros) (sym is.zeros)
+    ∙ take-append-drop a.len a.store)
 
 -- so octets lie that were written over zeros
 pub is_padded : (room : ℕ) (octets : List ℕ) → length octets ≤ room

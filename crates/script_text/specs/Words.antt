@@ -1,4 +1,4 @@
--- What the words of a script's lines say, each for itself, as docs/FORMATS.md tells. This is statement.
+-- What the words of a script's lines say, each for itself. This is statement.
 use Rattle.std.specs.Prelude.{◌≡◌, ℕ, ◌/◌, ◌^◌, ◌==◌, ◌&&◌, ◌||◌, not, nat_eq, nat_le, if◌then◌else◌, Bool, true, false, List, [], ◌∷◌, length, drop, codes, Option, Some, None, Result, Ok, Err}
 use Rattle.std.specs.Option.{ok_or}
 use Rattle.std.specs.Result.{result_ok}

@@ -59,7 +59,8 @@ impl Draws {
 
     fn event_of(&mut self, kind: u64, number: u32) -> Event
         requires counted { self.old.sends < 100000 }
-        ensures made { IsMade (kind_made kind number self.old.state self.old.sends) result self.new.state self.new.sends }
+        ensures made { IsMade (kind_made kind number self.old.state self.old.sends) result self.new.state
+            self.new.sends }
         ensures ranges { IsEvent 4 result }
         ensures counted { self.new.sends ≤ self.old.sends + 1 }
     {
@@ -119,7 +120,8 @@ impl Draws {
     // The first telegram, or one of the last eight that were sent or may have been.
     fn telegram(&mut self) -> u32
         ensures first { self.old.sends ≡ 0 → (result ≡ 1) × (self.new.state ≡ self.old.state) }
-        ensures late { 0 < self.old.sends → (result ≡ self.old.sends - drawn self.new.state (min self.old.sends 8)) × (self.new.state ≡ next_state self.old.state) }
+        ensures late { 0 < self.old.sends → (result ≡ self.old.sends - drawn self.new.state (min self.old.sends 8))
+            × (self.new.state ≡ next_state self.old.state) }
         ensures same { self.new.sends ≡ self.old.sends }
         ensures some { 0 < result }
     {

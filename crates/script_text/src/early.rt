@@ -78,8 +78,10 @@ impl Lists {
 }
 
 fn placed_in(nodes: &[NodeLine], name: &str) -> Result<(usize, NodeLine), Cause>
-    ensures node { IfOk result (λ found. ok_or (find (λ node. same_name name.now node.name) nodes.now) cause.Name ≡ Ok found.1) }
-    ensures none { IfErr result (λ why. ok_or (find (λ node. same_name name.now node.name) nodes.now) cause.Name ≡ Err why) }
+    ensures node { IfOk result (λ found. ok_or (find (λ node. same_name name.now node.name) nodes.now) cause.Name
+        ≡ Ok found.1) }
+    ensures none { IfErr result (λ why. ok_or (find (λ node. same_name name.now node.name) nodes.now) cause.Name
+        ≡ Err why) }
     ensures place { IfOk result (λ found. slice_get nodes.now found.0 ≡ Some found.1) }
 {
     match place_of(nodes, name) {

@@ -9,8 +9,8 @@ pub enum ScriptFault {
     Order(u64),
     /// The line says again what a line before it says.
     Twice(u64),
-    /// As many rows, nodes, objects or events as there may be stand before the line; or the node of the line has too many
-    /// lanes.
+    /// As many rows, nodes, objects or events as there may be stand before the line; or the node of the line has too
+    /// many lanes.
     TooMany(u64),
     NoMemory,
 }

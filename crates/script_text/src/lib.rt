@@ -1,5 +1,5 @@
-//! Scripts: the rows of an installation, its nodes, and what happens to them; the text that a script is read from, and a
-//! script that is made from a number.
+//! Scripts: the rows of an installation, its nodes, and what happens to them; the text that a script is read from, and
+//! a script that is made from a number.
 #![tactic(auto)]
 
 mod draws;

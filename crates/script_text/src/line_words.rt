@@ -20,7 +20,9 @@ pub(crate) fn one_word<'a>(words: &mut Words<'a>) -> Result<&'a str, Cause>
 pub(crate) fn five_words<'a>(
     words: &mut Words<'a>,
 ) -> Result<((&'a str, &'a str), &'a str, &'a str, &'a str), Cause>
-    ensures { MatchResult result (λ five. five_words words.old ≡ Ok ((five.0.0.now, five.0.1.now), five.1.now, five.2.now, five.3.now)) (λ why. five_words words.old ≡ Err why) }
+    ensures { MatchResult result (λ five. five_words words.old
+        ≡ Ok ((five.0.0.now, five.0.1.now), five.1.now, five.2.now, five.3.now))
+        (λ why. five_words words.old ≡ Err why) }
 {
     let (Some(first), Some(second)) = (words.next(), words.next()) else {
         return Err(Cause::Words);
@@ -38,7 +40,8 @@ pub(crate) fn three_settled<'a>(
     settled: Result<(), Refusal>,
     words: &mut Words<'a>,
 ) -> Result<(&'a str, &'a str, &'a str), Refusal>
-    ensures { MatchResult result (λ three. three_settled settled words.old ≡ Ok (three.0.now, three.1.now, three.2.now)) (λ why. three_settled settled words.old ≡ Err why) }
+    ensures { MatchResult result (λ three. three_settled settled words.old ≡ Ok (three.0.now, three.1.now, three.2.now))
+        (λ why. three_settled settled words.old ≡ Err why) }
 {
     let three = three_words(words)?;
     settled?;
@@ -49,7 +52,8 @@ pub(crate) fn one_settled<'a>(
     settled: Result<(), Refusal>,
     words: &mut Words<'a>,
 ) -> Result<&'a str, Refusal>
-    ensures { MatchResult result (λ one. one_settled settled words.old ≡ Ok one.now) (λ why. one_settled settled words.old ≡ Err why) }
+    ensures { MatchResult result (λ one. one_settled settled words.old ≡ Ok one.now)
+        (λ why. one_settled settled words.old ≡ Err why) }
 {
     let one = one_word(words)?;
     settled?;

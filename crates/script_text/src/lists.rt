@@ -77,7 +77,8 @@ impl Lists {
 
     fn add_row(&mut self, row: Row) -> Result<(), Refusal>
         requires said { IsSaid (length self.old.nodes) (said.Row row) }
-        ensures added { OnOk result ((self.new ≡ added self.old (said.Row row)) × (standing self.old (said.Row row) ≡ None)) }
+        ensures added { OnOk result ((self.new ≡ added self.old (said.Row row))
+            × (standing self.old (said.Row row) ≡ None)) }
         ensures fault { IfErr result (λ why. IsRefusal why (standing self.old (said.Row row))) }
     {
         match self.rows.add(row) {
@@ -91,7 +92,8 @@ impl Lists {
 
     fn add_node(&mut self, node: NodeLine) -> Result<(), Refusal>
         requires said { IsSaid (length self.old.nodes) (said.Node node) }
-        ensures added { OnOk result ((self.new ≡ added self.old (said.Node node)) × (standing self.old (said.Node node) ≡ None)) }
+        ensures added { OnOk result ((self.new ≡ added self.old (said.Node node))
+            × (standing self.old (said.Node node) ≡ None)) }
         ensures fault { IfErr result (λ why. IsRefusal why (standing self.old (said.Node node))) }
     {
         if is_node_again(&self.nodes, &node) {
@@ -108,7 +110,8 @@ impl Lists {
     #[tactic(auto, using(crate::proofs::Standing::objects_still_stand))]
     fn add_object(&mut self, object: ObjectLine) -> Result<(), Refusal>
         requires said { IsSaid (length self.old.nodes) (said.Object object) }
-        ensures added { OnOk result ((self.new ≡ added self.old (said.Object object)) × (standing self.old (said.Object object) ≡ None)) }
+        ensures added { OnOk result ((self.new ≡ added self.old (said.Object object))
+            × (standing self.old (said.Object object) ≡ None)) }
         ensures fault { IfErr result (λ why. IsRefusal why (standing self.old (said.Object object))) }
     {
         if is_object_again(&self.objects, &object) {
@@ -124,7 +127,8 @@ impl Lists {
 
     fn add_mark(&mut self, mark: MarkLine) -> Result<(), Refusal>
         requires said { IsSaid (length self.old.nodes) (said.Mark mark) }
-        ensures added { OnOk result ((self.new ≡ added self.old (said.Mark mark)) × (standing self.old (said.Mark mark) ≡ None)) }
+        ensures added { OnOk result ((self.new ≡ added self.old (said.Mark mark))
+            × (standing self.old (said.Mark mark) ≡ None)) }
         ensures fault { IfErr result (λ why. IsRefusal why (standing self.old (said.Mark mark))) }
     {
         if is_mark_again(&self.marks, &mark) {
@@ -137,7 +141,8 @@ impl Lists {
 
     fn add_event(&mut self, event: Event) -> Result<(), Refusal>
         requires said { IsSaid (length self.old.nodes) (said.Event event) }
-        ensures added { OnOk result ((self.new ≡ added self.old (said.Event event)) × (standing self.old (said.Event event) ≡ None)) }
+        ensures added { OnOk result ((self.new ≡ added self.old (said.Event event))
+            × (standing self.old (said.Event event) ≡ None)) }
         ensures fault { IfErr result (λ why. IsRefusal why (standing self.old (said.Event event))) }
     {
         if self.events.len() >= MOST_EVENTS {

@@ -24,9 +24,9 @@ const BITS: GroupAddr = GroupAddr(0x0801);
 // 1/0/2, whose objects hold two octets.
 const OCTETS: GroupAddr = GroupAddr(0x0802);
 
-/// A script that is made from a number: four nodes with two objects each, which are all of two groups, and so many events
-/// that are drawn: sends, values that are set, deliveries of a telegram that was sent lately, requests of synchronisation,
-/// cuts of power inside a memory write, and starts. A number and a count make one script.
+/// A script that is made from a number: four nodes with two objects each, which are all of two groups, and so many
+/// events that are drawn: sends, values that are set, deliveries of a telegram that was sent lately, requests of
+/// synchronisation, cuts of power inside a memory write, and starts. A number and a count make one script.
 pub fn make_script(alloc: Global, number: u32, count: u32) -> Result<Script, NoMemory>
     requires some { 1 ≤ count }
     requires most { count ≤ 100000 }

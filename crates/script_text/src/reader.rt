@@ -52,7 +52,8 @@ impl Reader {
     pub(crate) fn take(&mut self, alloc: Global, number: u64, line: &[u8]) -> Result<(), Refusal>
         requires known { IsKnown self.old.lists self.old.lanes.items }
         ensures known { OnOk result (IsKnown self.new.lists self.new.lanes.items) }
-        ensures taken { OnOk result (TakesSaid self.old.lists (line_said self.old.lists number line.now) self.new.lists) }
+        ensures taken { OnOk result (TakesSaid self.old.lists (line_said self.old.lists number line.now)
+            self.new.lists) }
         ensures fault { IfErr result (λ why. IsLineRefusal why (line_said self.old.lists number line.now)) }
     {
         match judge_line(line) {
@@ -73,7 +74,8 @@ impl Reader {
         requires line { line_of line.now ≡ Ok (Some words.old) }
         requires known { IsKnown self.old.lists self.old.lanes.items }
         ensures known { OnOk result (IsKnown self.new.lists self.new.lanes.items) }
-        ensures taken { OnOk result (TakesSaid self.old.lists (said_in self.old.lists number (Some words.old)) self.new.lists) }
+        ensures taken { OnOk result (TakesSaid self.old.lists (said_in self.old.lists number (Some words.old))
+            self.new.lists) }
         ensures fault { IfErr result (λ why. IsLineRefusal why (said_in self.old.lists number (Some words.old))) }
     {
         match self.read_words(alloc, number, line, words) {
@@ -86,7 +88,8 @@ impl Reader {
         requires said { IsSaid (length self.old.lists.nodes) said }
         requires known { IsKnown self.old.lists self.old.lanes.items }
         ensures known { OnOk result (IsKnown self.new.lists self.new.lanes.items) }
-        ensures added { OnOk result ((self.new.lists ≡ added self.old.lists said) × (standing self.old.lists said ≡ None)) }
+        ensures added { OnOk result ((self.new.lists ≡ added self.old.lists said)
+            × (standing self.old.lists said ≡ None)) }
         ensures fault { IfErr result (λ why. IsRefusal why (standing self.old.lists said)) }
     {
         self.forget_lanes(&said);
@@ -165,7 +168,8 @@ impl Reader {
         requires known { IsKnown self.old.lists self.old.lanes.items }
         ensures same { self.new.lists ≡ self.old.lists }
         ensures known { IsKnown self.new.lists self.new.lanes.items }
-        ensures said { result ≢ Err Refusal.NoMemory → result ≡ late_said self.old.lists (settled_by self.old.lists) kind.now words.old }
+        ensures said { result ≢ Err Refusal.NoMemory → result ≡ late_said self.old.lists (settled_by self.old.lists)
+            kind.now words.old }
         ensures ranges { IfOk result (IsSaid (length self.old.lists.nodes)) }
     {
         let settled = self.settle(alloc);
@@ -218,7 +222,8 @@ impl Reader {
     fn read_lane_at(&self, place: usize, word: &str) -> Result<Lane, Cause>
         requires settled { IsSettled self.now.lists self.now.lanes.items }
         requires there { place < length self.now.lists.nodes }
-        ensures lane { (node : NodeLine) → slice_get self.now.lists.nodes place ≡ Some node → result ≡ lane_of_node self.now.lists node word.now }
+        ensures lane { (node : NodeLine) → slice_get self.now.lists.nodes place ≡ Some node
+            → result ≡ lane_of_node self.now.lists node word.now }
     {
         let lane = read_lane(word)?;
         match self.lanes[place].place(lane) {

@@ -18,9 +18,9 @@ use text_lines::Lines;
 
 /// The script of a text, or the fault of its first refused line.
 ///
-/// A line is refused as a line of text, then for an unknown first word or a wrong number of words, then for its kind after
-/// the kinds before it, then for its first bad word from left to right, then because it says again what a line before it
-/// says, and then because there are too many of its kind.
+/// A line is refused as a line of text, then for an unknown first word or a wrong number of words, then for its kind
+/// after the kinds before it, then for its first bad word from left to right, then because it says again what a line
+/// before it says, and then because there are too many of its kind.
 #[tactic(auto, using(crate::proofs::Scripts::begins, crate::proofs::Scripts::line_refused, crate::proofs::Scripts::all_read))]
 pub fn read_script(alloc: Global, bytes: &[u8]) -> Result<Script, ScriptFault>
     ensures script { IfOk result (λ script. script_of bytes.now ≡ Ok script) }
@@ -43,8 +43,10 @@ fn take_line(
 ) -> Result<(), ScriptFault>
     requires known { IsKnown reader.old.lists reader.old.lanes.items }
     ensures known { OnOk result (IsKnown reader.new.lists reader.new.lanes.items) }
-    ensures taken { OnOk result (TakesSaid reader.old.lists (line_said reader.old.lists number line.now) reader.new.lists) }
-    ensures fault { IfErr result (λ fault. IsLineFault fault (at_line number (line_said reader.old.lists number line.now))) }
+    ensures taken { OnOk result (TakesSaid reader.old.lists (line_said reader.old.lists number line.now)
+        reader.new.lists) }
+    ensures fault { IfErr result (λ fault. IsLineFault fault
+        (at_line number (line_said reader.old.lists number line.now))) }
 {
     match reader.take(alloc, number, line) {
         Ok(()) => Ok(()),

@@ -114,7 +114,12 @@ fn a_line_out_of_order_and_one_said_twice_are_refused(rt: HostRuntime) {
             ScriptFault::Twice(4),
         ),
         (
-            b"knx-script 1\nrole 1/2/3 1.1.1 command\nnode a 1.1.9 1\nobject a 1/2/3 w 1 00\nmark a run:1.1.1 7\nmark a run:1.1.1 8",
+            b"knx-script 1\n\
+              role 1/2/3 1.1.1 command\n\
+              node a 1.1.9 1\n\
+              object a 1/2/3 w 1 00\n\
+              mark a run:1.1.1 7\n\
+              mark a run:1.1.1 8",
             ScriptFault::Twice(6),
         ),
     ] {

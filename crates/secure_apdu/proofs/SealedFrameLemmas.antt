@@ -16,5 +16,6 @@ pub sealed_frame_from : (key : List ℕ) (head : SendHead) (apdu content out res
 unfolding sealed_frame
 sealed_frame_from key head apdu content out rest n is_content is_length is_out =
     ap (take n) is_out
-    ∙ take_at (message 0x29 [] (long_octets (sealed_fields head content))) rest n (length-message (sealed_fields head content) ∙ sym is_length)
+    ∙ take_at (message 0x29 [] (long_octets (sealed_fields head content))) rest n
+    (length-message (sealed_fields head content) ∙ sym is_length)
     ∙ ap (λ (c : List ℕ). message 0x29 [] (long_octets (sealed_fields head c))) is_content

@@ -11,8 +11,10 @@ pub six_octets : (s : List ℕ) → length s ≡ 6
 six_octets s six = text_from_reads s _ six (refl, (refl, (refl, (refl, (refl, (refl, tt))))))
 
 pub xor_octets-six : (c n : List ℕ) → length c ≡ 6 → length n ≡ 6
-    → bit_xor (get_or c 0 0) (get_or n 0 0) ∷ bit_xor (get_or c 1 0) (get_or n 1 0) ∷ bit_xor (get_or c 2 0) (get_or n 2 0)
-    ∷ bit_xor (get_or c 3 0) (get_or n 3 0) ∷ bit_xor (get_or c 4 0) (get_or n 4 0) ∷ bit_xor (get_or c 5 0) (get_or n 5 0) ∷ []
+    → bit_xor (get_or c 0 0) (get_or n 0 0) ∷ bit_xor (get_or c 1 0) (get_or n 1 0)
+    ∷ bit_xor (get_or c 2 0) (get_or n 2 0)
+    ∷ bit_xor (get_or c 3 0) (get_or n 3 0) ∷ bit_xor (get_or c 4 0) (get_or n 4 0)
+    ∷ bit_xor (get_or c 5 0) (get_or n 5 0) ∷ []
     ≡ xor_octets c n
 xor_octets-six c n six_c six_n = λ i. xor_octets (sym (six_octets c six_c) i) (sym (six_octets n six_n) i)
 
@@ -22,5 +24,6 @@ xor_octets-twice [] [] same = refl
 xor_octets-twice [] (y ∷ ys) same = absurd (omega (arith, same))
 xor_octets-twice (x ∷ xs) [] same = absurd (omega (arith, same))
 xor_octets-twice (x ∷ xs) (y ∷ ys) same =
-    let head : bit_xor x (bit_xor x y) ≡ y = sym (xor_assoc x x y) ∙ ap (λ (z : ℕ). bit_xor z y) (xor_self x) ∙ xor_zero_l y in
+    let head : bit_xor x (bit_xor x y) ≡ y =
+    sym (xor_assoc x x y) ∙ ap (λ (z : ℕ). bit_xor z y) (xor_self x) ∙ xor_zero_l y in
     λ i. head i ∷ xor_octets-twice xs ys (omega (arith, same)) i

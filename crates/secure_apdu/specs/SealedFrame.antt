@@ -24,7 +24,8 @@ sealed_head head = record {
 
 -- the secure service, the control field, the number field, and what stands on the wire of the APDU
 abbrev pub sealed_content : List ℕ → SendHead → List ℕ → List ℕ
-sealed_content key head apdu = secure_tpci ∷ 0xf1 ∷ head.field ∷ (octets_of head.shown ++ sealed key (sealed_head head) apdu)
+sealed_content key head apdu =
+    secure_tpci ∷ 0xf1 ∷ head.field ∷ (octets_of head.shown ++ sealed key (sealed_head head) apdu)
 
 abbrev pub sealed_fields : SendHead → List ℕ → Fields
 sealed_fields head content = record {

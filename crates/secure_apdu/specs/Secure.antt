@@ -16,7 +16,8 @@ carries_data _ = false
 
 -- the octets from the TPCI on have the secure service
 abbrev pub has_secure_service : List ℕ → Bool
-has_secure_service content = nat_le 2 (length content) && apci_of (slice_index content 0) (slice_index content 1) == 0x3f1
+has_secure_service content =
+    nat_le 2 (length content) && apci_of (slice_index content 0) (slice_index content 1) == 0x3f1
 
 abbrev pub is_secure : List ℕ → Bool
 is_secure content = carries_data (tpci_of (slice_index content 0)) && has_secure_service content
@@ -42,11 +43,13 @@ abbrev pub test : Bool → BadSecure → Test
 test applies fault = record { applies = applies; fault = fault }
 
 abbrev pub is_unknown : ℕ → Bool
-is_unknown service = if service == 0 then false else if service == 2 then false else if service == 3 then false else true
+is_unknown service =
+    if service == 0 then false else if service == 2 then false else if service == 3 then false else true
 
 -- a request of synchronisation has six octets, an answer twelve
 abbrev pub is_misfit : ℕ → ℕ → Bool
-is_misfit service length = if service == 2 then (if length == 6 then false else true) else if service == 3 then (if length == 12 then false else true) else false
+is_misfit service length = if service == 2 then (if length == 6 then false else true)
+    else if service == 3 then (if length == 12 then false else true) else false
 
 abbrev pub is_sync : ℕ → Bool
 is_sync service = service == 2 || service == 3
@@ -57,7 +60,8 @@ field_tests field length group =
     test (nat_lt 1 (algorithm_of field)) (bad.Algorithm (algorithm_of field))
     ∷ test (is_broadcast field) bad.Broadcast
     ∷ test (is_unknown (service_of field)) (bad.Service (service_of field))
-    ∷ test (is_sync (service_of field) && (is_misfit (service_of field) length || algorithm_of field == 0 || group)) (bad.Sync field length)
+    ∷ test (is_sync (service_of field) && (is_misfit (service_of field) length || algorithm_of field == 0 || group))
+    (bad.Sync field length)
     ∷ []
 
 -- two octets of the service, the control field, six of the number, and four of the code stand beside the secured APDU
@@ -75,7 +79,8 @@ bad_secure content group = first_fault (secure_tests content group)
 
 -- ---- the parts of one that has none
 
--- the octets have, after the two of the service, a control field, six octets of a number, and a secured APDU with its code
+-- the octets have, after the two of the service, a control field, six octets of a number, and a secured APDU with its
+-- code
 pub record HasParts (content : List ℕ) (field shown : ℕ) (body : List ℕ) : Type 0 where
   pub field_is : field ≡ slice_index content 2
   pub shown_is : shown ≡ number_at content 3

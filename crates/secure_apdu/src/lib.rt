@@ -1,5 +1,5 @@
-//! Secure frames of KNX Data Secure: which frames are secure, what stands in them, and how they are sealed and opened. No
-//! call takes memory.
+//! Secure frames of KNX Data Secure: which frames are secure, what stands in them, and how they are sealed and opened.
+//! No call takes memory.
 #![tactic(auto)]
 
 mod buffer;

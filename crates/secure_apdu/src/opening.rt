@@ -21,19 +21,23 @@ pub fn open_frame(
 ) -> Result<(), CodeDiffers>
     requires faultless { bad_secure frame.now.content.now (frame.now.control2 / 128 % 2 == 1) ≡ None }
     requires parts { HasParts frame.now.content.now secure.now.field secure.now.shown secure.now.body.now }
-    ensures opened { OnOk result (Opens key.now (head_of (telegram frame.now) number secure.now.field) secure.now.body.now out.new) }
+    ensures opened { OnOk result (Opens key.now (head_of (telegram frame.now) number secure.now.field)
+        secure.now.body.now out.new) }
 
     // The call is answered by Ok wherever an APDU seals to the frame, and at most one does.
-    ensures only { (apdu : List ℕ) → Opens key.now (head_of (telegram frame.now) number secure.now.field) secure.now.body.now apdu → IsOk result × (out.new ≡ apdu) }
+    ensures only { (apdu : List ℕ) → Opens key.now (head_of (telegram frame.now) number secure.now.field)
+        secure.now.body.now apdu → IsOk result × (out.new ≡ apdu) }
     ensures differ { IfErr result (λ codes. codes.said ≢ codes.computed) }
-    ensures codes { IfErr result (λ codes. AreCodes key.now (head_of (telegram frame.now) number secure.now.field) secure.now.body.now codes.said codes.computed) }
+    ensures codes { IfErr result (λ codes. AreCodes key.now (head_of (telegram frame.now) number secure.now.field)
+        secure.now.body.now codes.said codes.computed) }
 
     // The same as functions of the frame.
     ensures answer { MatchResult result
         (λ _. opened key.now (head_of (telegram frame.now) number secure.now.field) secure.now.body.now ≡ Some out.new)
         (λ codes. (opened key.now (head_of (telegram frame.now) number secure.now.field) secure.now.body.now ≡ None)
         × (codes.said ≡ said_code key.now (head_of (telegram frame.now) number secure.now.field) secure.now.body.now)
-        × (codes.computed ≡ computed_code key.now (head_of (telegram frame.now) number secure.now.field) secure.now.body.now)) }
+        × (codes.computed ≡ computed_code key.now (head_of (telegram frame.now) number secure.now.field)
+        secure.now.body.now)) }
     ensures length { OnOk result (length out.new + 13 ≡ length frame.now.content.now) }
     ensures empty { OnErr result (out.new ≡ []) }
 {

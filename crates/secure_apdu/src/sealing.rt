@@ -32,8 +32,8 @@ const FRONT: usize = 9;
 // The most octets of a content.
 const ROOM: usize = 255;
 
-/// Seals an APDU of 2 to 242 octets (the sealing of docs/RULES.md) and writes the frame that it is sent in: an L_Data.ind frame whose
-/// TPCI octet is 03.
+/// Seals an APDU of 2 to 242 octets (the sealing of docs/RULES.md) and writes the frame that it is sent in: an
+/// L_Data.ind frame whose TPCI octet is 03.
 pub fn seal_frame(key: &Key128, head: &SendHead, apdu: &[u8], out: &mut FrameBuf)
     requires algorithm { head.now.field / 16 % 8 ≤ 1 }
     requires some { 2 ≤ length apdu.now }

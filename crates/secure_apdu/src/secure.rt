@@ -27,8 +27,8 @@ pub enum BadSecure {
     Broadcast,
     /// A service that is neither data nor of a synchronisation.
     Service(u8),
-    /// A synchronisation to a group, without encryption or of the wrong length: the control field, and the octets of the
-    /// secured APDU.
+    /// A synchronisation to a group, without encryption or of the wrong length: the control field, and the octets of
+    /// the secured APDU.
     Sync(u8, u8),
 }
 
@@ -56,13 +56,15 @@ fn has_secure_service(content: &[u8]) -> bool
     }
 }
 
-/// The parts of a secure frame, or what is wrong with it first, by the faults of docs/RULES.md. The body has at most 246 octets.
+/// The parts of a secure frame, or what is wrong with it first, by the faults of docs/RULES.md. The body has at most
+/// 246 octets.
 pub fn read_secure<'a>(frame: &Frame<'a>) -> Result<Secure<'a>, BadSecure>
     requires secure { IsTrue (is_secure frame.now.content.now) }
     ensures exact { MatchResult result
         (λ secure. bad_secure frame.now.content.now (frame.now.control2 / 128 % 2 == 1) ≡ None)
         (λ fault. bad_secure frame.now.content.now (frame.now.control2 / 128 % 2 == 1) ≡ Some fault) }
-    ensures parts { MatchResult result (λ secure. HasParts frame.now.content.now secure.field secure.shown secure.body.now) (λ _. Unit {0}) }
+    ensures parts { MatchResult result (λ secure. HasParts frame.now.content.now secure.field secure.shown
+        secure.body.now) (λ _. Unit {0}) }
 {
     let length = frame.content.len();
     if length < SHORTEST {

@@ -35,19 +35,22 @@ abbrev at_most : ℕ → ℕ → ℕ → ℕ
 at_most count last next = 3 * ((count - (last + 1 - next) + 63) / 64)
 
 -- a draw, and those behind it
-module _ (d : Drawn) (rest : List Drawn) (last next : ℕ) (draw : IsDraw last next d) (are : AreDraws d.sound d.last d.next rest) (below : next < 2 ^ 48) where
+module _ (d : Drawn) (rest : List Drawn) (last next : ℕ) (draw : IsDraw last next d)
+    (are : AreDraws d.sound d.last d.next rest) (below : next < 2 ^ 48) where
   unsound : d.sound ≡ false → writes_of rest ≡ 0
   unsound is = none_unsound d.last d.next rest (subst (λ s. AreDraws s d.last d.next rest) is are)
 
   -- of a number that is reserved, where all are
-  none_behind : last ≡ 2 ^ 48 - 1 → (d.last ≡ 2 ^ 48 - 1 → d.next ≤ 2 ^ 48 → writes_of rest ≡ 0) → (s : Bool) → d.sound ≡ s → writes_of rest ≡ 0
+  none_behind : last ≡ 2 ^ 48 - 1 → (d.last ≡ 2 ^ 48 - 1 → d.next ≤ 2 ^ 48 → writes_of rest ≡ 0) → (s : Bool)
+      → d.sound ≡ s → writes_of rest ≡ 0
   none_behind most again true is =
       let after = draw.drawn is below in
       again (after.1 ∙ kept_for last next (omega arith) ∙ most) (omega (arith, after.0))
   none_behind most again false is = unsound is
 
   -- of a number that is reserved
-  kept : next ≤ last → last < 2 ^ 48 → (d.last < 2 ^ 48 → d.next ≤ d.last + 1 → writes_of rest ≤ at_most (length rest) d.last d.next)
+  kept : next ≤ last → last < 2 ^ 48 → (d.last < 2 ^ 48 → d.next ≤ d.last + 1
+      → writes_of rest ≤ at_most (length rest) d.last d.next)
       → (s : Bool) → d.sound ≡ s → writes_of rest ≤ at_most (length rest + 1) last next
   kept reserved fits again true is =
       let after = draw.drawn is below in
@@ -56,8 +59,10 @@ module _ (d : Drawn) (rest : List Drawn) (last next : ℕ) (draw : IsDraw last n
   kept reserved fits again false is = omega (arith, unsound is)
 
   -- of a number that is not
-  ahead : next ≡ last + 1 → (d.last < 2 ^ 48 → d.next ≤ d.last + 1 → writes_of rest ≤ at_most (length rest) d.last d.next)
-      → (d.last ≡ 2 ^ 48 - 1 → d.next ≤ 2 ^ 48 → writes_of rest ≡ 0) → (s : Bool) → d.sound ≡ s → writes_of rest + 3 ≤ at_most (length rest + 1) last next
+  ahead : next ≡ last + 1 → (d.last < 2 ^ 48 → d.next ≤ d.last + 1
+      → writes_of rest ≤ at_most (length rest) d.last d.next)
+      → (d.last ≡ 2 ^ 48 - 1 → d.next ≤ 2 ^ 48 → writes_of rest ≡ 0) → (s : Bool) → d.sound ≡ s
+      → writes_of rest + 3 ≤ at_most (length rest + 1) last next
   ahead first again none true is =
       let after = draw.drawn is below in
       let least : d.last ≡ min (next + 63) (2 ^ 48 - 1) = after.1 ∙ raised_for last next (omega arith) in
@@ -71,36 +76,51 @@ module _ (d : Drawn) (rest : List Drawn) (last next : ℕ) (draw : IsDraw last n
   ahead first again none false is = omega (arith, unsound is)
 
 -- once all numbers are reserved no draw writes
-none_more : (draws : List Drawn) (sound : Bool) (last next : ℕ) → last ≡ 2 ^ 48 - 1 → next ≤ 2 ^ 48 → AreDraws sound last next draws → writes_of draws ≡ 0
+none_more : (draws : List Drawn) (sound : Bool) (last next : ℕ) → last ≡ 2 ^ 48 - 1 → next ≤ 2 ^ 48
+    → AreDraws sound last next draws → writes_of draws ≡ 0
 none_more [] sound last next most fits are = refl
 none_more (d ∷ rest) sound last next most fits are =
     writes_more d rest ∙ elim (cases_order next (2 ^ 48)) [
-      | inl end ↦ let after = are.1.exhausted end in omega (arith, after, none_more rest d.sound d.last d.next (after.2 ∙ most) (omega (arith, after)) are.2)
+      | inl end ↦ let after = are.1.exhausted end in omega (
+        arith,
+        after,
+        none_more rest d.sound d.last d.next
+            (after.2 ∙ most) (omega (arith, after)) are.2,
+      )
       | inr apart ↦ elim apart [
         | inl below ↦ omega (
           arith,
           are.1.none_where_reserved (omega arith),
-          none_behind d rest last next are.1 are.2 below most (λ is fits. none_more rest d.sound d.last d.next is fits are.2) d.sound refl,
+          none_behind d rest last next are.1 are.2 below most (λ is fits. none_more rest d.sound d.last d.next is fits
+              are.2) d.sound refl,
         )
         | inr beyond ↦ absurd (omega arith)
       ]
     ]
 
 -- The first writes come when the numbers that are reserved are drawn, and then for each 64 numbers.
-few_writes : (draws : List Drawn) (sound : Bool) (last next : ℕ) → last < 2 ^ 48 → next ≤ last + 1 → AreDraws sound last next draws
+few_writes : (draws : List Drawn) (sound : Bool) (last next : ℕ) → last < 2 ^ 48 → next ≤ last + 1
+    → AreDraws sound last next draws
     → writes_of draws ≤ at_most (length draws) last next
 few_writes [] sound last next fits near are = omega arith
 few_writes (d ∷ rest) sound last next fits near are = elim (cases_order next (2 ^ 48)) [
   | inl end ↦
       let after = are.1.exhausted end in
-      omega (arith, writes_more d rest, after, few_writes rest d.sound d.last d.next (omega (arith, after)) (omega (arith, after)) are.2)
+      omega (
+        arith,
+        writes_more d rest,
+        after,
+        few_writes rest d.sound d.last d.next (omega (arith, after))
+            (omega (arith, after)) are.2,
+      )
   | inr apart ↦ elim apart [
     | inl below ↦ elim (cases_order next (last + 1)) [
       | inl first ↦ omega (
         arith,
         writes_more d rest,
         are.1.few,
-        ahead d rest last next are.1 are.2 below first (λ fits near. few_writes rest d.sound d.last d.next fits near are.2)
+        ahead d rest last next are.1 are.2 below first (λ fits near. few_writes rest d.sound d.last d.next fits near
+            are.2)
             (λ is fits. none_more rest d.sound d.last d.next is fits are.2) d.sound refl,
       )
       | inr other ↦ elim other [
@@ -108,7 +128,8 @@ few_writes (d ∷ rest) sound last next fits near are = elim (cases_order next (
           arith,
           writes_more d rest,
           are.1.none_where_reserved (omega arith),
-          kept d rest last next are.1 are.2 below (omega arith) fits (λ fits near. few_writes rest d.sound d.last d.next fits near are.2) d.sound refl,
+          kept d rest last next are.1 are.2 below (omega arith) fits
+              (λ fits near. few_writes rest d.sound d.last d.next fits near are.2) d.sound refl,
         )
         | inr beyond ↦ absurd (omega arith)
       ]
@@ -117,5 +138,6 @@ few_writes (d ∷ rest) sound last next fits near are = elim (cases_order next (
   ]
 ]
 
-pub draws_bound : (last : ℕ) (draws : List Drawn) → last < 2 ^ 48 → AreDraws true last (last + 1) draws → sum_by (λ (d : Drawn). d.writes) draws ≤ 3 * (1 + length draws / 64)
+pub draws_bound : (last : ℕ) (draws : List Drawn) → last < 2 ^ 48 → AreDraws true last (last + 1) draws
+    → sum_by (λ (d : Drawn). d.writes) draws ≤ 3 * (1 + length draws / 64)
 draws_bound last draws fits are = omega (arith, few_writes draws true last (last + 1) fits (omega arith) are)

@@ -9,7 +9,8 @@ use Rattle.knx_base.proofs.NumberLemmas.{length-octets_of}
 use Rattle.seq_store.specs.Ring.{generation_octets, numbers_octets, bank_body}
 use Rattle.seq_store.proofs.Bodies.{length-generation_octets, length-numbers_octets}
 
-fill_six : (front six : List ℕ) (n m a : ℕ) → length front ≡ a → length six ≡ 6 → n ≡ 6 + m → put_mid a 6 (front ++ replicate n 0) six ≡ (front ++ six) ++ replicate m 0
+fill_six : (front six : List ℕ) (n m a : ℕ) → length front ≡ a → length six ≡ 6 → n ≡ 6 + m
+    → put_mid a 6 (front ++ replicate n 0) six ≡ (front ++ six) ++ replicate m 0
 fill_six front six n m a is size more =
     let left : n - 6 ≡ m = omega (arith, more) in
     ap (λ a. put_mid a 6 (front ++ replicate n 0) six) (sym is)
@@ -19,23 +20,28 @@ fill_six front six n m a is size more =
     ∙ ap (λ k. front ++ (six ++ replicate k 0)) left
     ∙ sym (append_assoc front six (replicate m 0))
 
-pub fill_more : (g values w a k : ℕ) (number : ℕ → ℕ) (body six : List ℕ) → w < values → a ≡ 8 + 6 * w → k ≡ 6 → six ≡ octets_of (number w)
+pub fill_more : (g values w a k : ℕ) (number : ℕ → ℕ) (body six : List ℕ) → w < values → a ≡ 8 + 6 * w → k ≡ 6
+    → six ≡ octets_of (number w)
     → body ≡ generation_octets g ++ numbers_octets number w ++ replicate (6 * (values - w) + 128) 0
-    → put_mid a k body six ≡ generation_octets g ++ numbers_octets number (w + 1) ++ replicate (6 * (values - (w + 1)) + 128) 0
+    → put_mid a k body six ≡ generation_octets g ++ numbers_octets number (w + 1)
+    ++ replicate (6 * (values - (w + 1)) + 128) 0
 unfolding numbers_octets
 fill_more g values w a k number body six below start width is so_far =
     let front : List ℕ = generation_octets g ++ numbers_octets number w in
-    let size : length front ≡ a = simp length-append (omega (arith, length-generation_octets g, length-numbers_octets number w, start)) in
+    let size : length front ≡ a =
+    simp length-append (omega (arith, length-generation_octets g, length-numbers_octets number w, start)) in
     let six_size : length six ≡ 6 = ap length is ∙ length-octets_of (number w) in
     let next : w + 1 ≡ suc w = omega arith in
     ap (λ b. put_mid a k b six) so_far
     ∙ ap (λ k. put_mid a k (front ++ replicate (6 * (values - w) + 128) 0) six) width
     ∙ fill_six front six (6 * (values - w) + 128) (6 * (values - (w + 1)) + 128) a size six_size (omega (arith, below))
     ∙ ap (λ s. (front ++ s) ++ replicate (6 * (values - (w + 1)) + 128) 0) is
-    ∙ ap (λ f. f ++ replicate (6 * (values - (w + 1)) + 128) 0) (append_assoc (generation_octets g) (numbers_octets number w) (octets_of (number w)))
+    ∙ ap (λ f. f ++ replicate (6 * (values - (w + 1)) + 128) 0)
+    (append_assoc (generation_octets g) (numbers_octets number w) (octets_of (number w)))
     ∙ ap (λ m. generation_octets g ++ numbers_octets number m ++ replicate (6 * (values - (w + 1)) + 128) 0) (sym next)
 
-pub fill_start : (g values k : ℕ) (number : ℕ → ℕ) (body first : List ℕ) → body ≡ replicate (8 + 6 * values + 128) 0 → first ≡ generation_octets g → k ≡ 8
+pub fill_start : (g values k : ℕ) (number : ℕ → ℕ) (body first : List ℕ) → body ≡ replicate (8 + 6 * values + 128) 0
+    → first ≡ generation_octets g → k ≡ 8
     → first ++ drop k body ≡ generation_octets g ++ numbers_octets number 0 ++ replicate (6 * (values - 0) + 128) 0
 unfolding numbers_octets
 fill_start g values k number body first zeros is size =
@@ -48,7 +54,8 @@ fill_start g values k number body first zeros is size =
     ∙ ap (λ f. f ++ replicate (6 * (values - 0) + 128) 0) (sym (append-nil (generation_octets g)))
 
 pub fill_end : (g values w : ℕ) (number : ℕ → ℕ) (body : List ℕ) → w ≡ values
-    → body ≡ generation_octets g ++ numbers_octets number w ++ replicate (6 * (values - w) + 128) 0 → body ≡ bank_body 1 values g number
+    → body ≡ generation_octets g ++ numbers_octets number w ++ replicate (6 * (values - w) + 128) 0
+    → body ≡ bank_body 1 values g number
 unfolding bank_body
 fill_end g values w number body is so_far =
     let none : 6 * (values - values) + 128 ≡ 16 * (7 + 1) = omega arith in

@@ -18,7 +18,8 @@ module _ (s : State) (marks : List ℕ) (last : ℕ) (agrees : Agrees s marks la
   ready = restores_ready s.octets last marks agrees.restores
 
   -- a mark, and the last reserved number, may be raised
-  pub may_raise : (lane n : ℕ) → length marks ≤ most_lanes → lane < length marks → slice_index marks lane < n → n < 2 ^ 48 → MayRaise (length marks) s.octets (1 + lane) n
+  pub may_raise : (lane n : ℕ) → length marks ≤ most_lanes → lane < length marks → slice_index marks lane < n
+      → n < 2 ^ 48 → MayRaise (length marks) s.octets (1 + lane) n
   may_raise lane n lanes_fit in_range above fits = record {
     lanes_fit = lanes_fit;
     ready = ready;
@@ -50,7 +51,8 @@ module _ (s : State) (marks : List ℕ) (last : ℕ) (agrees : Agrees s marks la
   }
 
   -- and after one of the last reserved number
-  pub agrees_reserved : (n : ℕ) (b : State) → n < 2 ^ 48 → b.powered ≡ true → IsRaised (length marks) s.octets 0 n b.octets → Agrees b marks n
+  pub agrees_reserved : (n : ℕ) (b : State) → n < 2 ^ 48 → b.powered ≡ true
+      → IsRaised (length marks) s.octets 0 n b.octets → Agrees b marks n
   agrees_reserved n b fits on raised = record {
     powered = on;
     fits = fits;
@@ -65,7 +67,8 @@ module _ (s : State) (marks : List ℕ) (last : ℕ) (agrees : Agrees s marks la
   last_is l is = cc (sym is ∙ agrees.restores.reserved)
 
   by_test : (le : Bool) (next : ℕ) (c : List ℕ) → nat_le next last ≡ le → (next ≤ last → c ≡ s.octets)
-      → (last < next → IsRaised (length marks) s.octets 0 (reservation_for last next) c) → IsRaised (length marks) s.octets 0 (reservation_for last next) c
+      → (last < next → IsRaised (length marks) s.octets 0 (reservation_for last next) c)
+      → IsRaised (length marks) s.octets 0 (reservation_for last next) c
   by_test true next c test unchanged raised =
       let here : reservation_for last next ≡ last = ap (λ le. cond le last (min (next + 63) (2 ^ 48 - 1))) test in
       subst (λ n. IsRaised (length marks) s.octets 0 n c) (sym here)
@@ -75,12 +78,15 @@ module _ (s : State) (marks : List ℕ) (last : ℕ) (agrees : Agrees s marks la
   -- Whether the number was reserved or not, the reservation is the one that it asks for.
   pub reserved_after : (next : ℕ) (c : List ℕ) → (next ≤ last → c ≡ s.octets)
       → (last < next → IsRaised (length marks) s.octets 0 (reservation_for last next) c)
-      → (l : ℕ) → value_of (length marks) s.octets 0 ≡ Some l → IsRaised (length marks) s.octets 0 (reservation_for l next) c
+      → (l : ℕ) → value_of (length marks) s.octets 0 ≡ Some l → IsRaised (length marks) s.octets 0
+      (reservation_for l next) c
   reserved_after next c unchanged raised l is =
-      subst (λ l. IsRaised (length marks) s.octets 0 (reservation_for l next) c) (sym (last_is l is)) (by_test (nat_le next last) next c refl unchanged raised)
+      subst (λ l. IsRaised (length marks) s.octets 0 (reservation_for l next) c) (sym (last_is l is))
+      (by_test (nat_le next last) next c refl unchanged raised)
 
 -- Any call that makes the writes of a raise does what one does.
-module _ {answer : Option NvmFault} {a b : State} {p q : ℕ → List ℕ → Type 0} (lanes v n : ℕ) (may : MayRaise lanes a.octets v n)
+module _ {answer : Option NvmFault} {a b : State} {p q : ℕ → List ℕ → Type 0} (lanes v n : ℕ)
+    (may : MayRaise lanes a.octets v n)
     (made : Makes (raise_writes lanes a.octets v n) answer a b p q) where
   laws : HasRaiseLaws lanes a.octets v n
   laws = raises_whole lanes v n a.octets may
@@ -88,7 +94,8 @@ module _ {answer : Option NvmFault} {a b : State} {p q : ℕ → List ℕ → Ty
   pub raises : Raises lanes v n answer a b p q
   raises = record {
     makes = made;
-    any_moment = λ t image early since. elim (made.images t image early since) [ inl past ↦ inl past | inr reached ↦ inr (laws.torn image reached) ];
+    any_moment = λ t image early since. elim (made.images t image early since)
+        [ inl past ↦ inl past | inr reached ↦ inr (laws.torn image reached) ];
     now = laws.torn b.octets (makes_reached made);
     raised = λ done. subst (IsRaised lanes a.octets v n) (sym (whole done)) laws.whole;
     few = omega (arith, made.few, laws.few.at_most_three);

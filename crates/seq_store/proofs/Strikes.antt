@@ -13,14 +13,17 @@ torn_by torn w a inside =
     let size : length (replicate (length w.bytes) torn) ≡ length w.bytes = length-replicate (length w.bytes) torn in
     subst (λ n. Torn w.at n a (put (torn_to torn w) a)) size (torn_put (torn_to torn w) a (omega (arith, size, inside)))
 
-reached_by : (cut fault : Option ℕ) (w : Write) (ws : List Write) (plan : Plan) (a : List ℕ) → w.at + length w.bytes ≤ length a
-    → Reached ws (put w a) (strike ws plan (put w a)).octets → Reached (w ∷ ws) a (and_then (struck_by cut fault w plan a) (strike ws)).octets
+reached_by : (cut fault : Option ℕ) (w : Write) (ws : List Write) (plan : Plan) (a : List ℕ)
+    → w.at + length w.bytes ≤ length a
+    → Reached ws (put w a) (strike ws plan (put w a)).octets
+    → Reached (w ∷ ws) a (and_then (struck_by cut fault w plan a) (strike ws)).octets
 reached_by (Some torn) fault w ws plan a inside again = inl (torn_by torn w a inside)
 reached_by None (Some torn) w ws plan a inside again = inl (torn_by torn w a inside)
 reached_by None None w ws plan a inside again = inr again
 
 -- What a strike leaves is a moment of the writes,
-pub strike_reached : (ws : List Write) (plan : Plan) (a : List ℕ) → All (FitsIn (length a)) ws → Reached ws a (strike ws plan a).octets
+pub strike_reached : (ws : List Write) (plan : Plan) (a : List ℕ) → All (FitsIn (length a)) ws
+    → Reached ws a (strike ws plan a).octets
 strike_reached [] plan a fit = refl
 strike_reached (w ∷ ws) plan a fit =
     let inside : w.at + length w.bytes ≤ length a = (All-head (FitsIn (length a)) w ws fit).inside in
@@ -37,7 +40,8 @@ whole_by None (Some torn) w ws plan a again ok = absurd (cc ok)
 whole_by None None w ws plan a again ok = again ok
 
 -- and all of them where none was struck.
-pub strike_whole : (ws : List Write) (plan : Plan) (a : List ℕ) → (strike ws plan a).answer ≡ None → (strike ws plan a).octets ≡ written ws a
+pub strike_whole : (ws : List Write) (plan : Plan) (a : List ℕ) → (strike ws plan a).answer ≡ None
+    → (strike ws plan a).octets ≡ written ws a
 strike_whole [] plan a ok = refl
 strike_whole (w ∷ ws) plan a ok =
     whole_by (due plan.cut) (due plan.fault) w ws (plan_after plan) a (strike_whole ws (plan_after plan) (put w a)) ok

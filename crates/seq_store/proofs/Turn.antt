@@ -14,31 +14,41 @@ pub record IsOpenBank (values : ℕ) (image : List ℕ) (at g : ℕ) : Type 0 wh
   pub generation : generation_at image (at + 1) ≡ g
   pub enough : g ≤ numbers_sum image at values
 
-opened_by : (values : ℕ) (image : List ℕ) (at g : ℕ) (t s : Bool) → is_open image at ≡ t → nat_le (generation_at image (at + 1)) (numbers_sum image at values) ≡ s
+opened_by : (values : ℕ) (image : List ℕ) (at g : ℕ) (t s : Bool) → is_open image at ≡ t
+    → nat_le (generation_at image (at + 1)) (numbers_sum image at values) ≡ s
     → cond (t && s) (Some (generation_at image (at + 1))) None ≡ Some g → IsOpenBank values image at g
 opened_by values image at g true true gate enough is =
     let same : generation_at image (at + 1) ≡ g = cc is in
-    record { gate = gate; generation = same; enough = omega (arith, same, leb-true (generation_at image (at + 1)) (numbers_sum image at values) enough) }
+    record {
+      gate = gate;
+      generation = same;
+      enough = omega (arith, same, leb-true (generation_at image (at + 1)) (numbers_sum image at values) enough);
+    }
 opened_by values image at g true false gate enough is = absurd cc
 opened_by values image at g false s gate enough is = absurd cc
 
-pub opened : (values : ℕ) (image : List ℕ) (at g : ℕ) → open_generation values image at ≡ Some g → IsOpenBank values image at g
+pub opened : (values : ℕ) (image : List ℕ) (at g : ℕ) → open_generation values image at ≡ Some g
+    → IsOpenBank values image at g
 unfolding open_generation
 opened values image at g is =
-    opened_by values image at g (is_open image at) (nat_le (generation_at image (at + 1)) (numbers_sum image at values)) refl refl is
+    opened_by values image at g (is_open image at) (nat_le (generation_at image (at + 1)) (numbers_sum image at values))
+    refl refl is
 
-pub opens : (values : ℕ) (image : List ℕ) (at g : ℕ) → is_open image at ≡ true → generation_at image (at + 1) ≡ g → g ≤ numbers_sum image at values
+pub opens : (values : ℕ) (image : List ℕ) (at g : ℕ) → is_open image at ≡ true → generation_at image (at + 1) ≡ g
+    → g ≤ numbers_sum image at values
     → open_generation values image at ≡ Some g
 unfolding open_generation
 opens values image at g gate generation enough =
-    ap (λ b. cond (b && nat_le (generation_at image (at + 1)) (numbers_sum image at values)) (Some (generation_at image (at + 1))) None) gate
+    ap (λ b. cond (b && nat_le (generation_at image (at + 1)) (numbers_sum image at values))
+    (Some (generation_at image (at + 1))) None) gate
     ∙ ap (λ g. cond (nat_le g (numbers_sum image at values)) (Some g) None) generation
     ∙ ap (λ b. cond b (Some g) None) (le-leb g (numbers_sum image at values) enough)
 
 pub shuts : (values : ℕ) (image : List ℕ) (at : ℕ) → is_open image at ≡ false → open_generation values image at ≡ None
 unfolding open_generation
 shuts values image at gate =
-    ap (λ b. cond (b && nat_le (generation_at image (at + 1)) (numbers_sum image at values)) (Some (generation_at image (at + 1))) None) gate
+    ap (λ b. cond (b && nat_le (generation_at image (at + 1)) (numbers_sum image at values))
+    (Some (generation_at image (at + 1))) None) gate
 
 test_by : (w v : ℕ) (t : Bool) → (w == v) ≡ t → w ≡ v → t ≡ true
 test_by w v true test same = refl
@@ -63,7 +73,8 @@ module _ (width values : ℕ) (a : List ℕ) (at v n : ℕ) where
   replaced_fits fits w = replaced_by w (w == v) fits
 
 -- the current bank, and the other one
-module _ (width values : ℕ) (a : List ℕ) (at other v n : ℕ) (few : values ≤ 2 ^ 15) (in_range : v < values) (fits : n < 2 ^ 48)
+module _ (width values : ℕ) (a : List ℕ) (at other v n : ℕ) (few : values ≤ 2 ^ 15) (in_range : v < values)
+    (fits : n < 2 ^ 48)
     (above : bank_value width values a at v < n) (old_open : IsOpenBank values a at (generation_at a (at + 1))) where
   number : ℕ → ℕ
   number w = replaced width values a at v n w
@@ -74,19 +85,38 @@ module _ (width values : ℕ) (a : List ℕ) (at other v n : ℕ) (few : values 
   pub small : generation_at a (at + 1) + 1 < 2 ^ 64
   small = omega (arith, old_open.enough, sum_bound a at values)
 
-  module _ (c : List ℕ) (gate : is_open c other ≡ true) (has : HasBody other (bank_body width values (generation_at a (at + 1) + 1) (replaced width values a at v n)) c) where
+  module _ (c : List ℕ) (gate : is_open c other ≡ true) (has : HasBody other
+      (bank_body width values (generation_at a (at + 1) + 1) (replaced width values a at v n)) c) where
     each_number : (w : ℕ) → w < values → bank_number c other w ≡ replaced width values a at v n w
-    each_number w below = body_number width values other (generation_at a (at + 1) + 1) (replaced width values a at v n) c (λ w _. replaced_fits width values a at v n fits w) has w below
+    each_number w below = body_number width values other (generation_at a (at + 1) + 1) (replaced width values a at v n)
+        c (λ w _. replaced_fits width values a at v n fits w) has w below
 
     here_less : bank_number a at v < bank_number c other v
-    here_less = omega (arith, number_upto width values a at v, above, each_number v in_range, replaced_here width values a at v n)
+    here_less = omega (
+      arith,
+      number_upto width values a at v,
+      above,
+      each_number v in_range,
+      replaced_here width values
+          a at v n,
+    )
 
     each_upto : (w : ℕ) → w < values → bank_number a at w ≤ bank_number c other w
     each_upto w below = elim (cases_order w v) [
       | inl same ↦ rw same (omega (arith, here_less))
       | inr rest ↦
-          let apart : w ≢ v = λ same. elim rest [ inl less ↦ absurd (omega (arith, less, same)) | inr more ↦ absurd (omega (arith, more, same)) ] in
-          omega (arith, number_upto width values a at w, each_number w below, replaced_other width values a at v n w apart)
+          let apart : w ≢ v = λ same. elim rest [
+            | inl less ↦ absurd (omega (arith, less, same))
+            | inr more ↦ absurd
+                (omega (arith, more, same))
+          ] in
+          omega (
+            arith,
+            number_upto width values a at w,
+            each_number w below,
+            replaced_other width values a at v n w
+                apart,
+          )
     ]
 
     -- The raise is strict, so the sum grows by at least 1, as the generation does.
@@ -96,16 +126,20 @@ module _ (width values : ℕ) (a : List ℕ) (at other v n : ℕ) (few : values 
     pub turned_open : open_generation values c other ≡ Some (generation_at a (at + 1) + 1)
     turned_open =
         opens values c other (generation_at a (at + 1) + 1) gate
-        (body_generation width values other (generation_at a (at + 1) + 1) (replaced width values a at v n) c (λ w _. replaced_fits width values a at v n fits w) has small) enough
+        (body_generation width values other (generation_at a (at + 1) + 1) (replaced width values a at v n) c
+        (λ w _. replaced_fits width values a at v n fits w) has small) enough
 
     pub turned_value : (w : ℕ) → w < values → bank_value width values c other w ≡ replaced width values a at v n w
-    turned_value w below = body_value width values other (generation_at a (at + 1) + 1) (replaced width values a at v n) c (λ w _. replaced_fits width values a at v n fits w) has w below
+    turned_value w below = body_value width values other (generation_at a (at + 1) + 1) (replaced width values a at v n)
+        c (λ w _. replaced_fits width values a at v n fits w) has w below
 
 -- a bank whose gate was open and is, over what it was
-pub gate_same : (a c : List ℕ) (gate : ℕ) → is_open a gate ≡ true → is_open c gate ≡ true → slice_index c gate ≡ slice_index a gate
+pub gate_same : (a c : List ℕ) (gate : ℕ) → is_open a gate ≡ true → is_open c gate ≡ true
+    → slice_index c gate ≡ slice_index a gate
 gate_same a c gate old new = eqb-true (slice_index c gate) 0xA5 new ∙ sym (eqb-true (slice_index a gate) 0xA5 old)
 
-pub as_before : (width values : ℕ) (a c : List ℕ) (other n : ℕ) → bank_size width values ≤ 1 + n → IsAsBefore other n a c → is_open c other ≡ true
+pub as_before : (width values : ℕ) (a c : List ℕ) (other n : ℕ) → bank_size width values ≤ 1 + n
+    → IsAsBefore other n a c → is_open c other ≡ true
     → open_generation values c other ≡ open_generation values a other
 as_before width values a c other n inside kept gate = open_same width values c a other other each where
   each : (k : ℕ) → k < bank_size width values → slice_index c (other + k) ≡ slice_index a (other + k)
@@ -115,7 +149,8 @@ as_before width values a c other n inside kept gate = open_same width values c a
       ap (slice_index c) moved ∙ kept.each k (omega (arith, h, inside)) ∙ ap (slice_index a) (sym moved)
 
 -- At each moment the other bank is not open, or is as it was, or is open over the whole new body.
-pub turn_moment : (width values : ℕ) (a c : List ℕ) (other g : ℕ) (number : ℕ → ℕ) → IsGatedMoment other (bank_body width values g number) a c
+pub turn_moment : (width values : ℕ) (a c : List ℕ) (other g : ℕ) (number : ℕ → ℕ)
+    → IsGatedMoment other (bank_body width values g number) a c
     → (open_generation values c other ≡ None) ⊎ ((open_generation values c other ≡ open_generation values a other)
     ⊎ ((is_open c other ≡ true) × HasBody other (bank_body width values g number) c))
 turn_moment width values a c other g number moment = by_gate (is_open c other) refl where
@@ -126,7 +161,8 @@ turn_moment width values a c other g number moment = by_gate (is_open c other) r
   by_gate true gate = elim moment.behind [
     | inl shut ↦ absurd (cc (gate, shut))
     | inr rest ↦ elim rest [
-      | inl kept ↦ inr (inl (as_before width values a c other (length (bank_body width values g number)) (omega (arith, length-bank_body width values g number)) kept gate))
+      | inl kept ↦ inr (inl (as_before width values a c other (length (bank_body width values g number))
+          (omega (arith, length-bank_body width values g number)) kept gate))
       | inr has ↦ inr (inr (gate, has))
     ]
   ]

@@ -7,7 +7,7 @@ use Rattle.nvm_model.specs.declared.fault.NvmFault.TheVariants.{Cut}
 use Rattle.seq_store.specs.Draws.{reservation_for, IsDraw}
 use Rattle.seq_store.specs.Laws.{Raises}
 use Rattle.seq_store.specs.Refusal.{read_fault, draw_fault}
-use Rattle.seq_store.specs.Runs.{RestoresNumbers}
+use Rattle.seq_store.specs.Runs.{Raise, RestoresNumbers, after_raises}
 use Rattle.seq_store.specs.Store.{StoreState, lanes_of, numbers_of}
 use Rattle.seq_store.specs.declared.fault.DrawFault.{DrawFault}
 use Rattle.seq_store.specs.declared.fault.DrawFault.TheVariants.{Exhausted}
@@ -19,8 +19,10 @@ pub record HasCountedCause (answer : Option NvmFault) (old new : State) : Type 0
   pub cause : HasNvmCause answer old new
   pub cut : answer ≡ Some Cut → Rose old.cuts new.cuts
 
--- The memory of a store that was not started comes back: as it was where there was no room for the marks, else only read.
-pub record IsHandedBack (fault : StoreFault) (same : Type 0) (old new : State) (past since : ℕ → List ℕ → Type 0) : Type 0 where
+-- The memory of a store that was not started comes back: as it was where there was no room for the marks, else only
+-- read.
+pub record IsHandedBack (fault : StoreFault) (same : Type 0) (old new : State)
+    (past since : ℕ → List ℕ → Type 0) : Type 0 where
   pub unread : fault ≡ NoMemory → same
   pub read : fault ≢ NoMemory → Reads (read_fault fault) old new past since
   -- where the memory tells its plan and power is on, no read fails
@@ -34,8 +36,14 @@ pub record IsNumberDrawn {M : Type 0} (result : Result ℕ DrawFault) (old new :
   pub exhausted : (result ≡ Err Exhausted) ↔ (old.next ≡ 2 ^ 48)
   pub unchanged : result ≡ Err Exhausted → new ≡ old
 
--- A draw of a number that is reserved leaves its memory alone; else the reservation is raised first. So a start over the octets
--- goes on above the number.
+-- Behind raises a store has the numbers that they leave; after a fault it has those from before.
+pub record IsRenumbered {A E M : Type 0} (result : Result A E) (raises : List Raise)
+    (old new : StoreState M) : Type 0 where
+  pub raised : OnOk result (numbers_of new ≡ after_raises raises (numbers_of old))
+  pub same : OnErr result (numbers_of new ≡ numbers_of old)
+
+-- A draw of a number that is reserved leaves its memory alone; else the reservation is raised first. So a start over
+-- the octets goes on above the number.
 pub record ReservesFirst {M : Type 0} (result : Result ℕ DrawFault) (old new : StoreState M) (state : M → State)
     (images : M → ℕ → List ℕ → Type 0) : Type 0 where
   pub restores : RestoresNumbers (numbers_of old) (state old.memory).octets

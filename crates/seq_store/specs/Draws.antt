@@ -16,7 +16,8 @@ pub record Drawn : Type 0 where
 pub record IsDraw (old_last old_next : ℕ) (d : Drawn) : Type 0 where
   pub few : d.writes ≤ 3
   pub none_where_reserved : old_next ≤ old_last → d.writes ≡ 0
-  pub drawn : d.sound ≡ true → old_next < 2 ^ 48 → (d.next ≡ old_next + 1) × (d.last ≡ reservation_for old_last old_next)
+  pub drawn : d.sound ≡ true → old_next < 2 ^ 48 → (d.next ≡ old_next + 1)
+      × (d.last ≡ reservation_for old_last old_next)
   pub exhausted : old_next ≡ 2 ^ 48 → (d.writes ≡ 0) × (d.next ≡ old_next) × (d.last ≡ old_last)
 
 -- Draws one after another, each of a sound store. Marks may be raised in between.

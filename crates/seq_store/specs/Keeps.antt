@@ -20,9 +20,11 @@ struck_by_raises numbers raises plan image = strike (writes_of (length numbers.m
 -- The numbers are kept wherever the writes end.
 pub record KeepsNumbers (numbers : Numbers) (raises : List Raise) (image : List ℕ) : Type 0 where
   -- at each moment the image restores the numbers that some of the raises leave, in their order,
-  pub torn : (c : List ℕ) → Reached (writes_of (length numbers.marks) raises image) image c → RestoresSome raises numbers c
+  pub torn : (c : List ℕ) → Reached (writes_of (length numbers.marks) raises image) image c
+      → RestoresSome raises numbers c
   -- after all of them the last,
-  pub whole : RestoresNumbers (after_raises raises numbers) (written (writes_of (length numbers.marks) raises image) image)
+  pub whole : RestoresNumbers (after_raises raises numbers)
+      (written (writes_of (length numbers.marks) raises image) image)
   -- and so it is where a cut or a fault is armed.
   pub struck : (plan : Plan) → RestoresSome raises numbers (struck_by_raises numbers raises plan image).octets
   pub not_struck : (plan : Plan) → (struck_by_raises numbers raises plan image).answer ≡ None

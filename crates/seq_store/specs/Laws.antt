@@ -51,7 +51,8 @@ pub record HasFewWrites (lanes : ℕ) (image : List ℕ) (v n : ℕ) : Type 0 wh
   pub at_most_three : length (raise_writes lanes image v n) ≤ 3
   pub each_fits : All (FitsIn (length image)) (raise_writes lanes image v n)
 
--- The laws of a raise: few writes; after all of them the value is raised; at each moment of them it is the old one or the new.
+-- The laws of a raise: few writes; after all of them the value is raised; at each moment of them it is the old one or
+-- the new.
 pub record HasRaiseLaws (lanes : ℕ) (image : List ℕ) (v n : ℕ) : Type 0 where
   pub few : HasFewWrites lanes image v n
   pub whole : IsRaised lanes image v n (written (raise_writes lanes image v n) image)
@@ -65,9 +66,10 @@ pub record IsUnformattedAt (lanes : ℕ) (image : List ℕ) (place : ℕ) : Type
   pub none : value_of lanes image value ≡ None
   pub first : (w : ℕ) → w < value → IsSome (value_of lanes image w)
 
--- What the raise of this value makes of a memory, whatever it is answered. At each moment the value is the old one or the
--- number, and after Ok it is the number. It takes at most three writes.
-pub record Raises (lanes v n : ℕ) (answer : Option NvmFault) (old new : State) (past since : ℕ → List ℕ → Type 0) : Type 0 where
+-- What the raise of this value makes of a memory, whatever it is answered. At each moment the value is the old one or
+-- the number, and after Ok it is the number. It takes at most three writes.
+pub record Raises (lanes v n : ℕ) (answer : Option NvmFault) (old new : State)
+    (past since : ℕ → List ℕ → Type 0) : Type 0 where
   pub makes : Makes (raise_writes lanes old.octets v n) answer old new past since
   pub any_moment : LeavesOnly old.clock past since (IsOldOrRaised lanes old.octets v n)
   pub now : IsOldOrRaised lanes old.octets v n new.octets

@@ -1,7 +1,8 @@
--- Where a memory keeps its numbers. This file and Ring.antt alone know places; all else goes by the names that it gives.
+-- Where a memory keeps its numbers. This file and Ring.antt alone know places; all else goes by the names that it
+-- gives.
 --
--- Value 0 of a memory of so many lanes is the last reserved number, and value 1 + i is the mark of lane i. A memory is a ring of
--- records in two banks, with an index of one octet in each record.
+-- Value 0 of a memory of so many lanes is the last reserved number, and value 1 + i is the mark of lane i. A memory is
+-- a ring of records in two banks, with an index of one octet in each record.
 use Rattle.std.specs.Prelude.{ℕ, ◌+◌, ◌*◌, List, [], ◌∷◌, ◌++◌, length, replicate, slice_index, Option}
 use Rattle.knx_base.specs.Number.{octets_of}
 use Rattle.nvm_model.specs.Gate.{open_octet}
@@ -35,7 +36,8 @@ raise_writes lanes image v n = ring_writes width (1 + lanes) 0 image v n
 -- a new memory with this last reserved number and these marks: the first bank is open, and all else is zero
 unfoldable pub formatted_memory : ℕ → List ℕ → List ℕ
 formatted_memory reserved marks =
-    open_octet ∷ bank_body width (1 + length marks) 0 (slice_index (reserved ∷ marks)) ++ replicate (bank_size width (1 + length marks)) 0
+    open_octet ∷ bank_body width (1 + length marks) 0 (slice_index (reserved ∷ marks))
+    ++ replicate (bank_size width (1 + length marks)) 0
 
 -- the octets of numbers, one after another, and the writes of them from a place on
 unfoldable pub each_octets : List ℕ → List ℕ
@@ -46,8 +48,8 @@ unfoldable pub each_writes : ℕ → List ℕ → List Write
 each_writes at [] = []
 each_writes at (n ∷ ns) = record { at = at; bytes = octets_of n } ∷ each_writes (at + 6) ns
 
--- Gate, generation and first number in one write, then each mark. Behind the numbers of the first bank all octets are zero: 271,
--- and six for each mark.
+-- Gate, generation and first number in one write, then each mark. Behind the numbers of the first bank all octets are
+-- zero: 271, and six for each mark.
 abbrev pub head_write : ℕ → Write
 head_write reserved = record { at = 0; bytes = open_octet ∷ replicate 8 0 ++ octets_of reserved }
 

@@ -46,8 +46,8 @@ pub data Event : Type 0 where
   Start : Event
   -- a call is answered Ok
   Made : (call : Call) → Event
-  -- Power is lost or a write fails within a call, and the memory has these octets then. A stop between two calls is one within
-  -- a call that writes nothing.
+  -- Power is lost or a write fails within a call, and the memory has these octets then. A stop between two calls is one
+  -- within a call that writes nothing.
   Stopped : (call : Call) (image : List ℕ) → Event
 
 -- These events may come one after another, from these octets on, with this store, if one runs.
@@ -57,10 +57,12 @@ AreEvents lanes octets store (Start ∷ events) = AreEvents lanes octets (Some (
 AreEvents lanes octets None (Made call ∷ events) = ⊥
 AreEvents lanes octets None (Stopped call image ∷ events) = ⊥
 AreEvents lanes octets (Some s) (Made call ∷ events) =
-    IsCall call s × AreEvents lanes (written (writes_of lanes (call_raises call s) octets) octets) (Some (after_call call s)) events
+    IsCall call s × AreEvents lanes (written (writes_of lanes (call_raises call s) octets) octets)
+    (Some (after_call call s)) events
 -- The memory is left as at any moment of the call's writes.
 AreEvents lanes octets (Some s) (Stopped call image ∷ events) =
-    IsCall call s × Reached (writes_of lanes (call_raises call s) octets) octets image × AreEvents lanes image None events
+    IsCall call s × Reached (writes_of lanes (call_raises call s) octets) octets image
+    × AreEvents lanes image None events
 
 -- the numbers that were drawn, in their order
 abbrev pub numbers_drawn : List Event → List ℕ

@@ -1,7 +1,7 @@
 -- A ring of records in two banks, with indexes of so many octets.
 --
--- A bank has a gate, a generation of 8 octets, a number of 6 octets for each value, and sixteen records of gate, index and number.
--- An image is any list of numbers, so each number of six octets is taken below 2^48.
+-- A bank has a gate, a generation of 8 octets, a number of 6 octets for each value, and sixteen records of gate, index
+-- and number. An image is any list of numbers, so each number of six octets is taken below 2^48.
 use Rattle.std.specs.Prelude.{ℕ, zero, suc, ◌+◌, ◌*◌, ◌/◌, ◌%◌, ◌^◌, max, Bool, false, ◌&&◌, ◌==◌, nat_le, if◌then◌else◌, List, [], ◌∷◌, ◌++◌, replicate, slice_index, Option, Some, None}
 use Rattle.knx_base.specs.Number.{number_at, octets_of}
 use Rattle.nvm_model.specs.Gate.{is_open, gated_writes}
@@ -36,12 +36,14 @@ record_number width image place v =
 -- the greatest number of this value in so many records, from this place on
 unfoldable pub records_number : ℕ → List ℕ → ℕ → ℕ → ℕ → ℕ
 records_number width image v zero place = 0
-records_number width image v (suc n) place = max (record_number width image place v) (records_number width image v n (place + (7 + width)))
+records_number width image v (suc n) place =
+    max (record_number width image place v) (records_number width image v n (place + (7 + width)))
 
 -- the place of the first of so many records that is not open
 unfoldable pub first_shut : ℕ → List ℕ → ℕ → ℕ → Option ℕ
 first_shut width image zero place = None
-first_shut width image (suc n) place = if is_open image place then first_shut width image n (place + (7 + width)) else Some place
+first_shut width image (suc n) place =
+    if is_open image place then first_shut width image n (place + (7 + width)) else Some place
 
 -- number v of a bank, the sum of its numbers, and the place of its records
 abbrev pub bank_number : List ℕ → ℕ → ℕ → ℕ
@@ -59,24 +61,28 @@ bank_size width values = 9 + 6 * values + 16 * (7 + width)
 
 -- value v of a bank
 unfoldable pub bank_value : ℕ → ℕ → List ℕ → ℕ → ℕ → ℕ
-bank_value width values image at v = max (bank_number image at v) (records_number width image v 16 (records_place values at))
+bank_value width values image at v =
+    max (bank_number image at v) (records_number width image v 16 (records_place values at))
 
 -- the generation of a bank that is open
 unfoldable pub open_generation : ℕ → List ℕ → ℕ → Option ℕ
 open_generation values image at =
-    if is_open image at && nat_le (generation_at image (at + 1)) (numbers_sum image at values) then Some (generation_at image (at + 1)) else None
+    if is_open image at && nat_le (generation_at image (at + 1)) (numbers_sum image at values)
+    then Some (generation_at image (at + 1)) else None
 
 -- Current is the open bank with the greater generation, and the first where both are equal.
 abbrev pub banks_by : Option ℕ → Option ℕ → ℕ → ℕ → Option Banks
 banks_by None None a b = None
 banks_by (Some g) None a b = Some (record { current = a; other = b })
 banks_by None (Some h) a b = Some (record { current = b; other = a })
-banks_by (Some g) (Some h) a b = if nat_le h g then Some (record { current = a; other = b }) else Some (record { current = b; other = a })
+banks_by (Some g) (Some h) a b =
+    if nat_le h g then Some (record { current = a; other = b }) else Some (record { current = b; other = a })
 
 -- the banks of a ring at this place, where one is open
 unfoldable pub banks_of : ℕ → ℕ → ℕ → List ℕ → Option Banks
 banks_of width values at image =
-    banks_by (open_generation values image at) (open_generation values image (at + bank_size width values)) at (at + bank_size width values)
+    banks_by (open_generation values image at) (open_generation values image (at + bank_size width values)) at
+    (at + bank_size width values)
 
 abbrev pub value_in : ℕ → ℕ → List ℕ → ℕ → Option Banks → Option ℕ
 value_in width values image v None = None
@@ -107,11 +113,13 @@ abbrev pub writes_by : ℕ → ℕ → List ℕ → ℕ → ℕ → Banks → Op
 writes_by width values image v n banks (Some place) = gated_writes place false (record_body width v n)
 writes_by width values image v n banks None =
     gated_writes banks.other (is_open image banks.other)
-    (bank_body width values (generation_at image (banks.current + 1) + 1) (replaced width values image banks.current v n))
+    (bank_body width values (generation_at image (banks.current + 1) + 1)
+    (replaced width values image banks.current v n))
 
 abbrev pub writes_in : ℕ → ℕ → List ℕ → ℕ → ℕ → Option Banks → List Write
 writes_in width values image v n None = []
-writes_in width values image v n (Some banks) = writes_by width values image v n banks (first_shut width image 16 (records_place values banks.current))
+writes_in width values image v n (Some banks) =
+    writes_by width values image v n banks (first_shut width image 16 (records_place values banks.current))
 
 abbrev pub ring_writes : ℕ → ℕ → ℕ → List ℕ → ℕ → ℕ → List Write
 ring_writes width values at image v n = writes_in width values image v n (banks_of width values at image)

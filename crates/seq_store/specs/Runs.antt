@@ -22,7 +22,8 @@ marks_from lanes image lane (suc n) = unwrap_or (restore lanes image lane) 0 ∷
 
 -- the numbers that an image of so many lanes restores
 abbrev pub numbers_in : ℕ → List ℕ → Numbers
-numbers_in lanes image = record { reserved = unwrap_or (restore_reserved lanes image) 0; marks = marks_from lanes image 0 lanes }
+numbers_in lanes image =
+    record { reserved = unwrap_or (restore_reserved lanes image) 0; marks = marks_from lanes image 0 lanes }
 
 pub data Raise : Type 0 where
   -- the last reserved number becomes this one
@@ -81,4 +82,5 @@ pub record Runs (numbers : Numbers) (raises : List Raise) (answer : Option NvmFa
 
 -- what a draw raises: the reservation, where the next number is above it and there is one
 abbrev pub draw_raises : ℕ → ℕ → List Raise
-draw_raises reserved next = if nat_lt reserved next && nat_lt next (2 ^ 48) then Reserve (reservation_for reserved next) ∷ [] else []
+draw_raises reserved next =
+    if nat_lt reserved next && nat_lt next (2 ^ 48) then Reserve (reservation_for reserved next) ∷ [] else []

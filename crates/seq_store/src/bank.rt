@@ -1,7 +1,7 @@
 //! A ring of records in two banks, as octets. It knows no memory.
 //!
-//! A bank has a gate, a generation of 8 octets, a number of 6 octets for each value, and sixteen records of gate, index of one
-//! octet and number. It is open where its gate is and its generation is at most the sum of its numbers.
+//! A bank has a gate, a generation of 8 octets, a number of 6 octets for each value, and sixteen records of gate, index
+//! of one octet and number. It is open where its gate is and its generation is at most the sum of its numbers.
 ghost use Rattle.std.specs.Prelude.{◌≡◌, ℕ, ◌+◌, ◌*◌, ◌^◌, ◌<◌, ◌≤◌, max, List, length, replicate, IfSome};
 ghost use Rattle.seq_store.specs.Layout.{width};
 ghost use Rattle.seq_store.specs.Ring.{six_at, generation_at, numbers_sum, open_generation, record_number, bank_size, bank_value, records_place, first_shut, banks_of, replaced, bank_body};
@@ -94,8 +94,8 @@ fn open_generation(octets: &[u8], at: usize, values: usize) -> Option<u64>
     }
 }
 
-/// The banks of a ring, where one is open: current is the open one with the greater generation, and the first where both are
-/// equal.
+/// The banks of a ring, where one is open: current is the open one with the greater generation, and the first where
+/// both are equal.
 #[tactic(auto, unfolding(crate::specs::Ring::banks_of))]
 pub fn banks_of(octets: &[u8], values: usize) -> Option<Banks>
     requires inside { 2 * bank_size width values ≤ length octets.now }
@@ -195,8 +195,8 @@ fn replaced(
     }
 }
 
-/// Makes of zeros what stands behind the gate of the next bank: the next generation, all values with one replaced, and no
-/// record.
+/// Makes of zeros what stands behind the gate of the next bank: the next generation, all values with one replaced, and
+/// no record.
 pub fn next_body(
     body: &mut [u8],
     octets: &[u8],
@@ -209,7 +209,8 @@ pub fn next_body(
     requires inside { current + bank_size width values ≤ length octets.now }
     requires values_fit { values ≤ 65 }
     requires small { generation_at octets.now (current + 1) + 1 < 2 ^ 64 }
-    ensures { body.new ≡ bank_body width values (generation_at octets.now (current + 1) + 1) (replaced width values octets.now current value number) }
+    ensures { body.new ≡ bank_body width values (generation_at octets.now (current + 1) + 1)
+        (replaced width values octets.now current value number) }
 {
     let generation = generation_at(octets, current + 1) + 1;
     body[..GENERATION_SIZE].copy_from_slice(&generation.to_be_bytes());

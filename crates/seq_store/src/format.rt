@@ -1,5 +1,5 @@
-//! A new memory: the first bank is open with generation 0 and no record, and all else is zero. It is written by pieces, so that
-//! a memory of any size takes no room here.
+//! A new memory: the first bank is open with generation 0 and no record, and all else is zero. It is written by pieces,
+//! so that a memory of any size takes no room here.
 ghost use Rattle.std.specs.Prelude.{◌≡◌, ℕ, ◌+◌, ◌*◌, ◌^◌, ◌<◌, ◌≤◌, true, List, [], ◌∷◌, length, Some, EachIndex, slice_index, OnOk, IsOk};
 ghost use Rattle.nvm_model.specs.Nvm.{Makes, fault_of};
 ghost use Rattle.nvm_model.specs.Plan.{unarmed};

@@ -26,8 +26,8 @@ pub fn store_size(lanes: usize) -> usize
     2 * bank_size(1 + lanes)
 }
 
-/// This value of an image, or None where no bank is open: value 0 is the last reserved number, and value 1 + i the mark of
-/// lane i.
+/// This value of an image, or None where no bank is open: value 0 is the last reserved number, and value 1 + i the mark
+/// of lane i.
 #[tactic(auto, unfolding(crate::specs::Layout::value_of))]
 pub fn stored_value(image: &[u8], lanes: usize, value: usize) -> Option<Number48>
     requires size { length image.now ≡ store_size lanes }

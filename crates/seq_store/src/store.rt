@@ -14,8 +14,8 @@ use nvm_model::Nvm;
 
 /// The marks of a device's lanes and the numbers that it draws, kept in a memory.
 ///
-/// It is sound until a call of its memory fails. While it is sound its memory has power on and restores its marks; once it is not,
-/// only its memory is of use: a start over it, once power is on, finds what the memory restores.
+/// It is sound until a call of its memory fails. While it is sound its memory has power on and restores its marks; once
+/// it is not, only its memory is of use: a start over it, once power is on, finds what the memory restores.
 #[derive(Drop)]
 pub struct SeqStore<M: Nvm> {
     memory: M,

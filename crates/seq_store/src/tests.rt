@@ -217,8 +217,9 @@ fn the_17th_raise_changes_banks(rt: HostRuntime) -> Result<(), Fail> {
     Ok(())
 }
 
-// Each row: how many raises are made, the write of the next one that is cut, the octet that it leaves, and the mark after power
-// returns. The 17th raise writes the second bank, and opens it; the 34th shuts the first bank, writes it, and opens it.
+// Each row: how many raises are made, the write of the next one that is cut, the octet that it leaves, and the mark
+// after power returns. The 17th raise writes the second bank, and opens it; the 34th shuts the first bank, writes it,
+// and opens it.
 #[test]
 fn a_cut_leaves_the_old_bank_or_the_new(rt: HostRuntime) -> Result<(), Fail> {
     let rows = [

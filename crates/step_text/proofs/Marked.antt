@@ -12,14 +12,18 @@ abbrev pub no_lane : Lane
 no_lane = lane.Run (record { 0 = 0 })
 
 -- the next lane of those that are left, with its mark
-pub next_mark : (lanes : List Lane) (marks : List ℕ) (i mark : ℕ) → i < length lanes → i < length marks → mark ≡ slice_index_or marks i mark
+pub next_mark : (lanes : List Lane) (marks : List ℕ) (i mark : ℕ) → i < length lanes → i < length marks
+    → mark ≡ slice_index_or marks i mark
     → drop i (zip lanes marks) ≡ (slice_index_or lanes i no_lane, mark) ∷ drop (i + 1) (zip lanes marks)
 next_mark lanes marks i mark lane_there mark_there is =
-    let there : i < length (zip lanes marks) = subst (λ n. i < n) (sym (length-zip lanes marks)) (grind (arith, lane_there, mark_there)) in
+    let there : i < length (zip lanes marks) =
+    subst (λ n. i < n) (sym (length-zip lanes marks)) (grind (arith, lane_there, mark_there)) in
     drop_more (zip lanes marks) i (no_lane, mark) there
     ∙ ap (λ pair. pair ∷ drop (i + 1) (zip lanes marks))
-    (get_or-zip lanes marks i (no_lane, mark) lane_there mark_there ∙ ap (λ n. (slice_index_or lanes i no_lane, n)) (sym is))
+    (get_or-zip lanes marks i (no_lane, mark) lane_there mark_there
+    ∙ ap (λ n. (slice_index_or lanes i no_lane, n)) (sym is))
 
 -- none is left
-pub no_mark_left : (lanes : List Lane) (marks : List ℕ) (i : ℕ) → min (length lanes) (length marks) ≤ i → drop i (zip lanes marks) ≡ []
+pub no_mark_left : (lanes : List Lane) (marks : List ℕ) (i : ℕ) → min (length lanes) (length marks) ≤ i
+    → drop i (zip lanes marks) ≡ []
 no_mark_left lanes marks i none = grind (arith, common_steps, length-zip lanes marks, none)

@@ -27,13 +27,15 @@ pub short_name : (service : Service) → length (name_of service) ≤ 30
 short_name = names.length-name_of
 
 -- a text was printed in part, as the front of another
-pub front_of : {T E : Type 0} (old new : Option (List ℕ)) (result : Result T E) (front back : List ℕ) {text : List ℕ} → front ++ back ≡ text
+pub front_of : {T E : Type 0} (old new : Option (List ℕ)) (result : Result T E) (front back : List ℕ) {text : List ℕ}
+    → front ++ back ≡ text
     → IsErr result → AppendsPrefix old new front → Prints old new result text
 front_of old new result front back whole failed begun =
     subst (λ text. Prints old new result text) whole (no_more old new result front back failed begun)
 
 -- a text was printed whole and another after it, which are a third
-pub both_of : {T E : Type 0} (old mid new : Option (List ℕ)) (result : Result T E) (front back : List ℕ) {text : List ℕ} → front ++ back ≡ text
+pub both_of : {T E : Type 0} (old mid new : Option (List ℕ)) (result : Result T E) (front back : List ℕ) {text : List ℕ}
+    → front ++ back ≡ text
     → mid ≡ append_known old front → Prints mid new result back → Prints old new result text
 both_of old mid new result front back whole first printed =
     subst (λ text. Prints old new result text) whole (then old mid new result front back first printed)
@@ -46,19 +48,26 @@ pub record IsPrinted {A : Type 0} (text : A → List ℕ) (all left : List A) (s
   pub printed : now ≡ append_known start front
   pub whole : front ++ flat_map text left ≡ flat_map text all
 
-pub none_yet : {A : Type 0} (text : A → List ℕ) (all : List A) (start : Option (List ℕ)) → IsPrinted text all all start start
+pub none_yet : {A : Type 0} (text : A → List ℕ) (all : List A) (start : Option (List ℕ))
+    → IsPrinted text all all start start
 none_yet text all start = record { front = []; printed = nothing start; whole = refl }
 
-pub one_more : {A : Type 0} {text : A → List ℕ} {all left : List A} {start mid now : Option (List ℕ)} (x : A) (rest : List A)
-    → IsPrinted text all left start mid → left ≡ x ∷ rest → now ≡ append_known mid (text x) → IsPrinted text all rest start now
+pub one_more : {A : Type 0} {text : A → List ℕ} {all left : List A} {start mid now : Option (List ℕ)} (x : A)
+    (rest : List A)
+    → IsPrinted text all left start mid → left ≡ x ∷ rest → now ≡ append_known mid (text x)
+    → IsPrinted text all rest start now
 one_more {text = text} {all = all} {start = start} x rest so_far is printed = record {
   front = so_far.front ++ text x;
-  printed = printed ∙ ap (λ known. append_known known (text x)) so_far.printed ∙ base.append_known-append start so_far.front (text x);
-  whole = append_assoc so_far.front (text x) (flat_map text rest) ∙ ap (λ xs. so_far.front ++ flat_map text xs) (sym is) ∙ so_far.whole;
+  printed = printed ∙ ap (λ known. append_known known (text x)) so_far.printed
+      ∙ base.append_known-append start so_far.front (text x);
+  whole = append_assoc so_far.front (text x) (flat_map text rest) ∙ ap (λ xs. so_far.front ++ flat_map text xs) (sym is)
+      ∙ so_far.whole;
 }
 
-pub one_failed : {A T E : Type 0} {text : A → List ℕ} {all left : List A} {start mid : Option (List ℕ)} (now : Option (List ℕ)) (result : Result T E) (x : A) (rest : List A)
-    → IsPrinted text all left start mid → left ≡ x ∷ rest → IsErr result → AppendsPrefix mid now (text x) → Prints start now result (flat_map text all)
+pub one_failed : {A T E : Type 0} {text : A → List ℕ} {all left : List A} {start mid : Option (List ℕ)}
+    (now : Option (List ℕ)) (result : Result T E) (x : A) (rest : List A)
+    → IsPrinted text all left start mid → left ≡ x ∷ rest → IsErr result → AppendsPrefix mid now (text x)
+    → Prints start now result (flat_map text all)
 one_failed {text = text} {start = start} {mid = mid} now result x rest so_far is failed begun =
     both_of start mid now result so_far.front (text x ++ flat_map text rest)
     (ap (λ xs. so_far.front ++ flat_map text xs) (sym is) ∙ so_far.whole) so_far.printed

@@ -34,7 +34,8 @@ object_text object value = codes " object " ++ decimal object ++ codes " value "
 abbrev pub act_text : Act → Option ℕ → List ℕ
 act_text (act.Write object value) reply = name_of GroupValueWrite ++ object_text object value
 act_text (act.Response object value) reply = name_of GroupValueResponse ++ object_text object value
-act_text (act.Read object number) reply = name_of GroupValueRead ++ codes " object " ++ decimal object ++ reply_text reply
+act_text (act.Read object number) reply =
+    name_of GroupValueRead ++ codes " object " ++ decimal object ++ reply_text reply
 act_text (act.Tool service) reply = name_of service
 
 -- an injected telegram was sealed under no number of a node

@@ -49,7 +49,8 @@ fn print_restored<S: Sink>(
     marks: &Marks,
     out: &mut S,
 ) -> Result<(), Failed>
-    ensures text { Prints (S.octets out.old) (S.octets out.new) result (front.now ++ marks_text lanes.now marks.now ++ 10 ∷ []) }
+    ensures text { Prints (S.octets out.old) (S.octets out.new) result
+        (front.now ++ marks_text lanes.now marks.now ++ 10 ∷ []) }
     ensures cause { HasCause (S.faults out.old) (S.faults out.new) result }
 {
     print_text(front.bytes(), out)?;

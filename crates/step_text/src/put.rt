@@ -1,7 +1,6 @@
 ghost use Rattle.std.specs.Prelude.{◌≡◌, ℕ, ◌+◌, ◌*◌, ◌≤◌, ◌++◌, ◌∷◌, [], length, codes, Option};
 ghost use Rattle.std.specs.Fmt.{decimal};
 ghost use Rattle.hex.specs.Hex.{encode_lower};
-ghost use Rattle.knx_base.specs.Address.{individual_text};
 ghost use Rattle.plain_apdu.specs.Service.{name_of};
 ghost use Rattle.step_text.specs.Text.{lane_text, reply_text, object_text, act_text, air_text, synced_text, acted_text, said_text};
 
@@ -9,7 +8,7 @@ use crate::StepOutcome;
 use group_objects::Value;
 use judge_rules::put_verdict;
 use key_tables::Lane;
-use knx_base::{IndAddr, LineBuf, Number48};
+use knx_base::{LineBuf, Number48};
 use node_core::Act;
 use plain_apdu::{Service, service_name};
 
@@ -74,7 +73,8 @@ fn put_acted(number: Number48, lane: Lane, act: &Act, reply: Option<u32>, line: 
 
 fn put_answered(challenge: &[u8; 6], reply: Option<u32>, line: &mut LineBuf)
     requires room { length line.old + 120 ≤ 1024 }
-    ensures added { line.new ≡ line.old ++ codes "answered challenge " ++ encode_lower challenge.now ++ reply_text reply }
+    ensures added { line.new ≡ line.old ++ codes "answered challenge " ++ encode_lower challenge.now
+        ++ reply_text reply }
     ensures short { length line.new ≤ length line.old + 120 }
 {
     line.text("answered challenge ");
@@ -164,25 +164,15 @@ pub(crate) fn put_lane(lane: Lane, line: &mut LineBuf)
     match lane {
         Lane::Run(sender) => {
             line.text("run:");
-            put_individual(sender, line);
+            line.individual(sender);
         }
         Lane::Tool(device, sender) => {
             line.text("tool:");
-            put_individual(device, line);
+            line.individual(device);
             line.octet(b':');
-            put_individual(sender, line);
+            line.individual(sender);
         }
     }
-}
-
-fn put_individual(address: IndAddr, line: &mut LineBuf)
-    requires room { length line.old + 12 ≤ 1024 }
-    ensures added { line.new ≡ line.old ++ individual_text address.0 }
-    ensures short { length line.new ≤ length line.old + 12 }
-{
-    let mut text = [0; 12];
-    let count = address.write_text(&mut text);
-    line.octets(&text[..count]);
 }
 
 #[tactic(auto, using(crate::proofs::Pieces::short_name))]

@@ -9,7 +9,14 @@ use Rattle.secure_apdu.specs.Sync.{xor_number}
 -- from a device to a device: the control field, the nonce number, and the number that the frame shows
 abbrev pub device_head : IndAddr → IndAddr → ℕ → ℕ → ℕ → SendHead
 device_head source destination field number shown =
-    record { source = source; destination = destination.0; group = false; number = number; shown = shown; field = field }
+    record {
+      source = source;
+      destination = destination.0;
+      group = false;
+      number = number;
+      shown = shown;
+      field = field;
+    }
 
 -- ---- the request, with tool access and encrypted
 
@@ -30,7 +37,8 @@ answer_field = 0x93
 
 -- It shows the challenge XOR its number.
 abbrev pub answer_head : IndAddr → IndAddr → ℕ → List ℕ → SendHead
-answer_head source destination number challenge = device_head source destination answer_field number (xor_number challenge number)
+answer_head source destination number challenge =
+    device_head source destination answer_field number (xor_number challenge number)
 
 -- It carries its number, and the one that was kept of the requester.
 abbrev pub answer_payload : ℕ → ℕ → List ℕ

@@ -38,7 +38,8 @@ impl AskedBook {
         responder: IndAddr,
         challenge: [u8; 6],
     ) -> Result<(), NoMemory>
-        ensures noted { OnOk result (asked_in self.new ≡ with_pair requester responder (Some challenge) (asked_in self.old)) }
+        ensures noted { OnOk result (asked_in self.new ≡ with_pair requester responder (Some challenge)
+            (asked_in self.old)) }
         ensures unchanged { OnErr result (self.new ≡ self.old) }
     {
         match self.challenges.insert((requester, responder), challenge) {

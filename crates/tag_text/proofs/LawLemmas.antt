@@ -27,13 +27,15 @@ no_rest [] is = refl
 no_rest (octet ∷ octets) is = cc is
 
 -- where the document is whole no piece is left
-whole_has_none : (s : State) (found : Piece × List ℕ) → is_whole s ≡ true → piece_at (is_inside s) s.rest ≡ Some found → ⊥
+whole_has_none : (s : State) (found : Piece × List ℕ) → is_whole s ≡ true → piece_at (is_inside s) s.rest ≡ Some found
+    → ⊥
 whole_has_none s found whole piece =
     let parts = both (is_empty s.rest && s.begun) (is_empty s.opened) whole in
     let none : s.rest ≡ [] = no_rest s.rest (both (is_empty s.rest) s.begun parts.0).0 in
     absurd (omega (arith, piece_less (is_inside s) s.rest found piece, ap length none))
 
-whole_test : (s : State) (b : Bool) (found : Piece × List ℕ) → is_whole s ≡ b → piece_at (is_inside s) s.rest ≡ Some found → step s ≡ judged s found.0 found.1
+whole_test : (s : State) (b : Bool) (found : Piece × List ℕ) → is_whole s ≡ b
+    → piece_at (is_inside s) s.rest ≡ Some found → step s ≡ judged s found.0 found.1
 whole_test s true found whole piece = absurd (whole_has_none s found whole piece)
 whole_test s false found whole piece = step_by s false (Some found) whole piece
 
@@ -43,31 +45,39 @@ step_is s p rest piece = whole_test s (is_whole s) (p, rest) refl (piece_is (is_
 no_piece_case : (s : State) (o : Option (Piece × List ℕ)) → is_whole s ≡ false → piece_at (is_inside s) s.rest ≡ o
     → ((p : Piece) (rest : List ℕ) → IsPiece (is_inside s) s.rest rest p → ⊥) → step s ≡ bad s
 no_piece_case s None whole piece none = step_by s false None whole piece
-no_piece_case s (Some found) whole piece none = absurd (none found.0 found.1 (is_piece (is_inside s) s.rest found piece))
+no_piece_case s (Some found) whole piece none =
+    absurd (none found.0 found.1 (is_piece (is_inside s) s.rest found piece))
 
 -- what the grammar has is what is read
 pub left_is : (s : State) (left : Left) → IsLeft s left → left ≡ left_of s
 left_is s left (Whole whole) = sym (left_stops s None (step_by s true (piece_at (is_inside s) s.rest) whole refl))
 left_is s left (Next {next = next} {tags = tags} {later = later} p rest piece goes more) =
-    ap (λ (left' : Left). after_tags tags left') (left_is next later more) ∙ sym (left_goes s next tags (step_is s p rest piece ∙ goes))
-left_is s left (Misplaced {fault = fault} p rest piece stops) = sym (left_stops s fault (step_is s p rest piece ∙ stops))
+    ap (λ (left' : Left). after_tags tags left') (left_is next later more)
+    ∙ sym (left_goes s next tags (step_is s p rest piece ∙ goes))
+left_is s left (Misplaced {fault = fault} p rest piece stops) =
+    sym (left_stops s fault (step_is s p rest piece ∙ stops))
 left_is s left (NoPiece whole none) =
     sym (left_stops s (Some (fault.Bad (place_of s))) (no_piece_case s (piece_at (is_inside s) s.rest) whole refl none))
 
-goes_case : (n : ℕ) (s : State) (found : Piece × List ℕ) (next : Step) → piece_at (is_inside s) s.rest ≡ Some found → judged s found.0 found.1 ≡ next
-    → ((later : State) → length later.rest < n → IsLeft later (left_of later)) → length s.rest < suc n → IsLeft s (left_of s)
+goes_case : (n : ℕ) (s : State) (found : Piece × List ℕ) (next : Step) → piece_at (is_inside s) s.rest ≡ Some found
+    → judged s found.0 found.1 ≡ next
+    → ((later : State) → length later.rest < n → IsLeft later (left_of later)) → length s.rest < suc n
+    → IsLeft s (left_of s)
 goes_case n s found (Goes tags next) piece is later small =
     let there : IsPiece (is_inside s) s.rest found.1 found.0 = is_piece (is_inside s) s.rest found piece in
     let goes : step s ≡ Goes tags next = step_is s found.0 found.1 there ∙ is in
     let P : Left → Type 0 = λ left. IsLeft s left in
-    subst P (sym (left_goes s next tags goes)) (Next found.0 found.1 there is (later next (omega (arith, step_less s next tags goes, small))))
+    subst P (sym (left_goes s next tags goes)) (Next found.0 found.1 there is
+    (later next (omega (arith, step_less s next tags goes, small))))
 goes_case n s found (Stops fault) piece is later small =
     let there : IsPiece (is_inside s) s.rest found.1 found.0 = is_piece (is_inside s) s.rest found piece in
     let P : Left → Type 0 = λ left. IsLeft s left in
     subst P (sym (left_stops s fault (step_is s found.0 found.1 there ∙ is))) (Misplaced found.0 found.1 there is)
 
-left_case : (n : ℕ) (s : State) (b : Bool) (o : Option (Piece × List ℕ)) → is_whole s ≡ b → piece_at (is_inside s) s.rest ≡ o
-    → ((later : State) → length later.rest < n → IsLeft later (left_of later)) → length s.rest < suc n → IsLeft s (left_of s)
+left_case : (n : ℕ) (s : State) (b : Bool) (o : Option (Piece × List ℕ)) → is_whole s ≡ b
+    → piece_at (is_inside s) s.rest ≡ o
+    → ((later : State) → length later.rest < n → IsLeft later (left_of later)) → length s.rest < suc n
+    → IsLeft s (left_of s)
 left_case n s true o whole piece later small =
     let P : Left → Type 0 = λ left. IsLeft s left in
     subst P (sym (left_stops s None (step_by s true o whole piece))) (Whole whole)
@@ -75,12 +85,14 @@ left_case n s false None whole piece later small =
     let P : Left → Type 0 = λ left. IsLeft s left in
     subst P (sym (left_stops s (Some (fault.Bad (place_of s))) (step_by s false None whole piece)))
     (NoPiece whole (λ p rest there. cc (piece, piece_is (is_inside s) s.rest rest p there)))
-left_case n s false (Some found) whole piece later small = goes_case n s found (judged s found.0 found.1) piece refl later small
+left_case n s false (Some found) whole piece later small =
+    goes_case n s found (judged s found.0 found.1) piece refl later small
 
 -- and what is read the grammar has
 is_left_within : (n : ℕ) (s : State) → length s.rest < n → IsLeft s (left_of s)
 is_left_within zero s small = absurd (omega (arith, small))
-is_left_within (suc n) s small = left_case n s (is_whole s) (piece_at (is_inside s) s.rest) refl refl (is_left_within n) small
+is_left_within (suc n) s small =
+    left_case n s (is_whole s) (piece_at (is_inside s) s.rest) refl refl (is_left_within n) small
 
 pub is_left : (s : State) → IsLeft s (left_of s)
 is_left s = is_left_within (suc (length s.rest)) s (omega arith)
@@ -95,7 +107,8 @@ last_or_less : (m n : ℕ) (b : Bool) → nat_le m n ≡ b → m ≤ suc n → (
 last_or_less m n true is small = inl (leb-true m n is)
 last_or_less m n false is small = inr (omega (arith, small, leb-false m n is))
 
-longest_case : (octets : List ℕ) (n : ℕ) (b : Bool) → is_utf8 (take (suc n) octets) ≡ b → IsLongestUtf8 octets n (valid_len_up_to octets n)
+longest_case : (octets : List ℕ) (n : ℕ) (b : Bool) → is_utf8 (take (suc n) octets) ≡ b
+    → IsLongestUtf8 octets n (valid_len_up_to octets n)
     → IsLongestUtf8 octets (suc n) (cond b (suc n) (valid_len_up_to octets n))
 longest_case octets n true is less = record {
   within = omega arith;
@@ -107,7 +120,8 @@ longest_case octets n false is less = record {
   front = less.front;
   longest = λ m above below utf8. elim (last_or_less m n (nat_le m n) refl below) [
     | inl small ↦ less.longest m above small utf8
-    | inr last ↦ (let U : ℕ → Type 0 = λ k. IsUtf8 (take k octets) in cc (is, is_utf8-from_IsUtf8 (take (suc n) octets) (subst U last utf8)))
+    | inr last ↦ (let U : ℕ → Type 0 = λ k. IsUtf8 (take k octets) in
+        cc (is, is_utf8-from_IsUtf8 (take (suc n) octets) (subst U last utf8)))
   ];
 }
 
@@ -124,13 +138,16 @@ not_utf8 octets m ill long utf8 =
     let U : List ℕ → Type 0 = λ part. IsUtf8 part in
     cc (ill, is_utf8-from_IsUtf8 octets (subst U (take_all m octets long) utf8))
 
-short_test : (octets : List ℕ) (v : ℕ) (b : Bool) → nat_lt v (length octets) ≡ b → is_utf8 octets ≡ false → IsUtf8 (take v octets) → v < length octets
+short_test : (octets : List ℕ) (v : ℕ) (b : Bool) → nat_lt v (length octets) ≡ b → is_utf8 octets ≡ false
+    → IsUtf8 (take v octets) → v < length octets
 short_test octets v true is ill front = ltb-true v (length octets) is
 short_test octets v false is ill front = absurd (not_utf8 octets v ill (ltb-false v (length octets) is) front)
 
-longer_test : (octets : List ℕ) (v m : ℕ) (b : Bool) → nat_le m (length octets) ≡ b → is_utf8 octets ≡ false → IsLongestUtf8 octets (length octets) v → v < m → IsUtf8 (take m octets) → ⊥
+longer_test : (octets : List ℕ) (v m : ℕ) (b : Bool) → nat_le m (length octets) ≡ b → is_utf8 octets ≡ false
+    → IsLongestUtf8 octets (length octets) v → v < m → IsUtf8 (take m octets) → ⊥
 longer_test octets v m true is ill most above utf8 = most.longest m above (leb-true m (length octets) is) utf8
-longer_test octets v m false is ill most above utf8 = not_utf8 octets m ill (omega (arith, leb-false m (length octets) is)) utf8
+longer_test octets v m false is ill most above utf8 =
+    not_utf8 octets m ill (omega (arith, leb-false m (length octets) is)) utf8
 
 -- a text that is not UTF-8 has a longest front that is
 pub is_valid_up_to : (octets : List ℕ) → is_utf8 octets ≡ false → IsValidUpTo octets (utf8_valid_len octets)
@@ -155,7 +172,12 @@ document_case octets true is =
     let P : Left → Type 0 = λ left. IsLeft (start_of octets) left in
     inl (utf8, subst P (sym (well_formed octets utf8)) (is_left (start_of octets)))
 document_case octets false is =
-    inr (utf8_valid_len octets, is_valid_up_to octets is, ill_formed octets (utf8_valid_len octets) (is_valid_up_to octets is) refl)
+    inr (
+      utf8_valid_len octets,
+      is_valid_up_to octets is,
+      ill_formed octets (utf8_valid_len octets)
+          (is_valid_up_to octets is) refl,
+    )
 
 pub is_document : (octets : List ℕ) → IsDocument octets (outcome_of octets)
 is_document octets = document_case octets (is_utf8 octets) refl

@@ -12,6 +12,7 @@ reverse_shorter {A} {B} f (x ∷ xs) n inside =
     ∙ ap (λ (front : List B). drop 1 (reverse front)) (map-append f (take n (x ∷ xs)) (last ∷ []))
     ∙ ap (λ (front : List B). drop 1 front) (reverse-append (map f (take n (x ∷ xs))) (f last ∷ [])))
 
-pub length_from_back : {A B : Type 0} (f : A → B) (xs : List A) (n : ℕ) (shown : List B) → reverse (map f (take n xs)) ≡ shown → n ≤ length xs → length shown ≡ n
+pub length_from_back : {A B : Type 0} (f : A → B) (xs : List A) (n : ℕ) (shown : List B)
+    → reverse (map f (take n xs)) ≡ shown → n ≤ length xs → length shown ≡ n
 length_from_back {A} {B} f xs n shown is inside =
     ap length (sym is) ∙ length-reverse (map f (take n xs)) ∙ length-map (take n xs) f ∙ length-take-le n xs inside

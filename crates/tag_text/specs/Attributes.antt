@@ -6,7 +6,8 @@ use Rattle.std.specs.Str.{bytes_eq}
 
 -- the value of the first attribute of this name
 abbrev pub value_named : List (List ℕ × List ℕ) → List ℕ → Option (List ℕ)
-value_named attributes name = option_map (λ attribute. attribute.1) (find (λ attribute. bytes_eq attribute.0 name) attributes)
+value_named attributes name =
+    option_map (λ attribute. attribute.1) (find (λ attribute. bytes_eq attribute.0 name) attributes)
 
 -- no two attributes have one name
 abbrev pub are_distinct : List (List ℕ × List ℕ) → Bool

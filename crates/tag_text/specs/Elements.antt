@@ -12,11 +12,14 @@ use Rattle.tag_text.specs.declared.tag.Tag.TheVariants.{Start, End}
 mutual
   -- an element: an empty-element tag, or a start tag, content and the end tag of the same name
   pub data IsElement (total : ℕ) : ℕ → List ℕ → List ℕ → List Tag → Type 0 where
-    Alone : {levels : ℕ} {text rest name : List ℕ} {attributes : List (List ℕ × List ℕ)} → IsTag text rest true name attributes
-        → IsElement total (suc levels) text rest (Start name attributes (total - length text) ∷ End (total - length text) ∷ [])
+    Alone : {levels : ℕ} {text rest name : List ℕ} {attributes : List (List ℕ × List ℕ)}
+        → IsTag text rest true name attributes
+        → IsElement total (suc levels) text rest (Start name attributes (total - length text)
+        ∷ End (total - length text) ∷ [])
     Around : {levels : ℕ} {text inner close rest name : List ℕ} {attributes : List (List ℕ × List ℕ)} {tags : List Tag}
         → IsTag text inner false name attributes → IsContent total levels inner close tags → IsEndTag close rest name
-        → IsElement total (suc levels) text rest (Start name attributes (total - length text) ∷ tags ++ End (total - length close) ∷ [])
+        → IsElement total (suc levels) text rest (Start name attributes (total - length text) ∷ tags
+        ++ End (total - length close) ∷ [])
 
   -- content: elements in turn, with text, instructions and comments around them, which give nothing
   pub data IsContent (total : ℕ) : ℕ → List ℕ → List ℕ → List Tag → Type 0 where

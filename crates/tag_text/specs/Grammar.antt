@@ -50,7 +50,8 @@ tag_end true = codes "/>"
 tag_end false = codes ">"
 
 -- a start tag, or an empty-element tag, that repeats no attribute
-pub record IsTag (text rest : List ℕ) (empty : Bool) (name : List ℕ) (attributes : List (List ℕ × List ℕ)) : Type 0 where
+pub record IsTag (text rest : List ℕ) (empty : Bool) (name : List ℕ)
+    (attributes : List (List ℕ × List ℕ)) : Type 0 where
   pub body : List ℕ
   pub blanks : List ℕ
   pub spelled : text ≡ 60 ∷ (name ++ body)
@@ -90,21 +91,23 @@ IsPiece inside text rest (Start name attributes) = IsTag text rest false name at
 IsPiece inside text rest (Empty name attributes) = IsTag text rest true name attributes
 IsPiece inside text rest (End name) = IsEndTag text rest name
 IsPiece inside text rest Skipped =
-    IsEnclosed (codes "<?") (codes "?>") text rest ⊎ (IsEnclosed (codes "<!--") (codes "-->") text rest ⊎ IsLongest (text_test inside) text rest)
+    IsEnclosed (codes "<?") (codes "?>") text rest ⊎ (IsEnclosed (codes "<!--") (codes "-->") text rest
+    ⊎ IsLongest (text_test inside) text rest)
 
 -- what is left where the document stands so: one piece gives its tags and the rest follows, or it is one that may not
 -- stand here, or none stands here, or the document is whole
 pub data IsLeft : State → Left → Type 0 where
   Whole : {s : State} → is_whole s ≡ true → IsLeft s (only None)
-  Next : {s next : State} {tags : List Tag} {later : Left} (p : Piece) (rest : List ℕ) → IsPiece (is_inside s) s.rest rest p
+  Next : {s next : State} {tags : List Tag} {later : Left} (p : Piece) (rest : List ℕ)
+      → IsPiece (is_inside s) s.rest rest p
       → judged s p rest ≡ Goes tags next → IsLeft next later → IsLeft s (after_tags tags later)
   Misplaced : {s : State} {fault : Option TagFault} (p : Piece) (rest : List ℕ) → IsPiece (is_inside s) s.rest rest p
       → judged s p rest ≡ Stops fault → IsLeft s (only fault)
   NoPiece : {s : State} → is_whole s ≡ false → ((p : Piece) (rest : List ℕ) → IsPiece (is_inside s) s.rest rest p → ⊥)
       → IsLeft s (only (Some (fault.Bad (place_of s))))
 
--- a document with what it gives: the starts and ends of its pieces in order, and the fault after them, if it has one. One
--- that is not UTF-8 gives the place of the first ill-formed octets and nothing before it
+-- a document with what it gives: the starts and ends of its pieces in order, and the fault after them, if it has one.
+-- One that is not UTF-8 gives the place of the first ill-formed octets and nothing before it
 abbrev pub IsDocument : List ℕ → Left → Type 0
 IsDocument octets left =
     (IsUtf8 octets × IsLeft (start_of octets) left)

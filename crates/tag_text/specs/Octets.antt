@@ -13,7 +13,8 @@ is_digit octet = nat_lt 47 octet && nat_lt octet 58
 -- an ASCII letter, `_`, `:`, or a part of a character past ASCII
 abbrev pub is_name_start : ℕ → Bool
 is_name_start octet =
-    (nat_lt 64 octet && nat_lt octet 91) || (nat_lt 96 octet && nat_lt octet 123) || octet == 95 || octet == 58 || nat_lt 127 octet
+    (nat_lt 64 octet && nat_lt octet 91) || (nat_lt 96 octet && nat_lt octet 123) || octet == 95 || octet == 58
+    || nat_lt 127 octet
 
 -- what may follow in a name: also a digit, `-` or `.`
 abbrev pub is_name_octet : ℕ → Bool
@@ -25,7 +26,8 @@ is_octet octet other = other == octet
 -- what stands before the first occurrence of the octet, and what follows it
 unfoldable pub cut_at : ℕ → List ℕ → Option (List ℕ × List ℕ)
 cut_at octet text =
-    if list_any (is_octet octet) text then Some (before_first (is_octet octet) text, after_first (is_octet octet) text) else None
+    if list_any (is_octet octet) text then Some (before_first (is_octet octet) text, after_first (is_octet octet) text)
+    else None
 
 -- what follows the elements from the front on that pass the test
 abbrev pub drop_while : (ℕ → Bool) → List ℕ → List ℕ
@@ -43,7 +45,8 @@ after_mark mark text = if starts_with nat_eq text mark then Some (drop (length m
 unfoldable pub after_first_mark : List ℕ → List ℕ → Option (List ℕ)
 after_first_mark mark [] = None
 after_first_mark mark (octet ∷ text) =
-    if starts_with nat_eq (octet ∷ text) mark then Some (drop (length mark) (octet ∷ text)) else after_first_mark mark text
+    if starts_with nat_eq (octet ∷ text) mark then Some (drop (length mark) (octet ∷ text))
+    else after_first_mark mark text
 
 abbrev pub begins_name : List ℕ → Bool
 begins_name [] = false

@@ -16,8 +16,8 @@ left_if_well_formed (Some place) left = only (Some (fault.Utf8 place))
 abbrev pub left_by : Inside → Left
 left_by r = left_if_well_formed r.ill_formed (after_tags (end_of r.ended) (left_of (state_of r.scan)))
 
--- what a call of `next` does to what is left: a tag is the first of the tags that are left; Finish comes where nothing is
--- left, and a fault where nothing but that fault is, and both leave it so; without memory it is as it was
+-- what a call of `next` does to what is left: a tag is the first of the tags that are left; Finish comes where nothing
+-- is left, and a fault where nothing but that fault is, and both leave it so; without memory it is as it was
 abbrev pub Gives : Left → Left → Result Tag TagFault → Type 0
 Gives old new (Ok (tag.Start name attributes place)) = old ≡ after_tags (tag.Start name attributes place ∷ []) new
 Gives old new (Ok (tag.End place)) = old ≡ after_tags (tag.End place ∷ []) new

@@ -40,9 +40,11 @@ BeginsElement old new name attributes (Ok started) = (started ≡ tag.Start name
     × (length old.opened < 32)
 BeginsElement old new name attributes (Err fault.NoMemory) = new ≡ old
 BeginsElement old new name attributes (Err (fault.Bad place)) = (new ≡ old)
-    × ((tags : List Tag) (opened : List (List ℕ)) (after : List ℕ) → begins old tags opened after ≡ Stops (Some (fault.Bad place)))
+    × ((tags : List Tag) (opened : List (List ℕ)) (after : List ℕ)
+    → begins old tags opened after ≡ Stops (Some (fault.Bad place)))
 BeginsElement old new name attributes (Err (fault.Deep place)) = (new ≡ old)
-    × ((tags : List Tag) (opened : List (List ℕ)) (after : List ℕ) → begins old tags opened after ≡ Stops (Some (fault.Deep place)))
+    × ((tags : List Tag) (opened : List (List ℕ)) (after : List ℕ)
+    → begins old tags opened after ≡ Stops (Some (fault.Deep place)))
 BeginsElement old new name attributes (Err (fault.Utf8 place)) = ⊥
 
 -- these tags, and then what is left later

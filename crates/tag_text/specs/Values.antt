@@ -54,13 +54,15 @@ with_front front value = option_map (λ rest. front ++ rest) value
 
 -- the character of the reference that a `&` began, up to its `;`, and what follows
 unfoldable pub reference_at : List ℕ → Option (ℕ × List ℕ)
-reference_at part = option_and_then (λ parts. option_map (λ code. (code, parts.1)) (reference_of parts.0)) (cut_at 59 part)
+reference_at part =
+    option_and_then (λ parts. option_map (λ code. (code, parts.1)) (reference_of parts.0)) (cut_at 59 part)
 
 -- the value of the parts that each begin after a `&`
 abbrev pub value_after : List (List ℕ) → Option (List ℕ)
 value_after [] = Some []
 value_after (part ∷ parts) =
-    option_and_then (λ reference. with_front (encode_utf8 reference.0 ++ spaced reference.1) (value_after parts)) (reference_at part)
+    option_and_then (λ reference. with_front (encode_utf8 reference.0 ++ spaced reference.1) (value_after parts))
+    (reference_at part)
 
 -- the value of the parts between `&` and `&`
 abbrev pub value_of_parts : List (List ℕ) → Option (List ℕ)

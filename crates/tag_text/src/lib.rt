@@ -1,5 +1,5 @@
-//! A reader of element documents: UTF-8 texts of elements with attributes, the profile of XML in which keyrings and recorded
-//! logs of telegrams are written. It gives the starts and ends of the elements in order.
+//! A reader of element documents: UTF-8 texts of elements with attributes, the profile of XML in which keyrings and
+//! recorded logs of telegrams are written. It gives the starts and ends of the elements in order.
 //!
 //! Nothing is read by recursion.
 #![tactic(auto)]

@@ -33,7 +33,8 @@ pub(crate) enum Piece<'a> {
 // An attribute, with the blanks before it, and what follows.
 #[tactic(auto, unfolding(crate::specs::Pieces::attribute_at))]
 fn attribute_at(alloc: Global, text: &str) -> Result<Option<(Text, Text, &str)>, NoMemory>
-    ensures attribute { IfOk result (λ found. option_map (λ parts. ((parts.0, parts.1), parts.2.now)) found ≡ attribute_at text.now) }
+    ensures attribute { IfOk result (λ found. option_map (λ parts. ((parts.0, parts.1), parts.2.now)) found
+        ≡ attribute_at text.now) }
 {
     if !begins_blank(text) {
         return Ok(None);
@@ -87,7 +88,8 @@ fn tag_end_at(text: &str) -> Option<(bool, &str)>
 // A start tag or an empty-element tag, and what follows.
 #[tactic(auto, unfolding(crate::specs::Pieces::start_tag_at))]
 fn start_tag_at(alloc: Global, text: &str) -> Result<Option<(Piece<'_>, &str)>, NoMemory>
-    ensures tag { IfOk result (λ found. option_map (λ piece. (piece_of piece.0, piece.1.now)) found ≡ start_tag_at text.now) }
+    ensures tag { IfOk result (λ found. option_map (λ piece. (piece_of piece.0, piece.1.now)) found
+        ≡ start_tag_at text.now) }
 {
     let Some(opened) = after_mark("<", text) else {
         return Ok(None);
@@ -108,7 +110,8 @@ fn tag_with<'a>(
     attributes: Attributes,
     rest: &'a str,
 ) -> Result<Option<(Piece<'a>, &'a str)>, NoMemory>
-    ensures tag { IfOk result (λ found. option_map (λ piece. (piece_of piece.0, piece.1.now)) found ≡ tag_with name.now attributes rest.now) }
+    ensures tag { IfOk result (λ found. option_map (λ piece. (piece_of piece.0, piece.1.now)) found
+        ≡ tag_with name.now attributes rest.now) }
 {
     let Some((is_empty, after)) = tag_end_at(rest) else {
         return Ok(None);
@@ -188,7 +191,8 @@ pub(crate) fn piece_at(
     inside: bool,
     text: &str,
 ) -> Result<Option<(Piece<'_>, &str)>, NoMemory>
-    ensures piece { IfOk result (λ found. option_map (λ piece. (piece_of piece.0, piece.1.now)) found ≡ piece_at inside text.now) }
+    ensures piece { IfOk result (λ found. option_map (λ piece. (piece_of piece.0, piece.1.now)) found
+        ≡ piece_at inside text.now) }
 {
     if let Some(after) = instruction_at(text) {
         return Ok(Some((Piece::Skipped, after)));

@@ -153,7 +153,8 @@ impl<'a> Scan<'a> {
         after: &'a str,
     ) -> Result<Option<Given>, TagFault>
         requires less { length after.now ≤ length self.old.rest.now }
-        ensures answer { Answers (judged (state_of self.old) (piece_of piece.entry) after.entry.now) (state_of self.old) (state_of self.new) result }
+        ensures answer { Answers (judged (state_of self.old) (piece_of piece.entry) after.entry.now) (state_of self.old)
+            (state_of self.new) result }
     {
         let place = self.place();
         match piece {

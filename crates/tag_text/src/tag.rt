@@ -4,8 +4,8 @@ use std::fmt;
 
 /// What is read of a document: the start of an element, the end of one, or that the document is read to its end.
 ///
-/// The place of a start or an end is the place of its tag's `<` in the document. The start and the end of an empty-element
-/// tag have one place.
+/// The place of a start or an end is the place of its tag's `<` in the document. The start and the end of an
+/// empty-element tag have one place.
 #[derive(Debug, Drop)]
 pub enum Tag {
     Start {

@@ -40,8 +40,8 @@ impl Text {
     }
 }
 
-/// The attributes of a start tag in order of appearance, with no name twice. A contract sees them as pairs of a name and a
-/// value, in which references are resolved and line ends are spaces.
+/// The attributes of a start tag in order of appearance, with no name twice. A contract sees them as pairs of a name
+/// and a value, in which references are resolved and line ends are spaces.
 #[derive(Debug, Drop)]
 pub struct Attributes {
     pairs: Vec<(Text, Text)>,
@@ -99,7 +99,8 @@ impl Attributes {
         self.pairs.len()
     }
 
-    /// The name and the value of the attribute at this place, counted from 0, or None where there are no more than `index`.
+    /// The name and the value of the attribute at this place, counted from 0, or None where there are no more than
+    /// `index`.
     pub fn pair(&self, index: usize) -> Option<(&str, &str)>
         ensures pair { option_map (λ pair. (pair.0.now, pair.1.now)) result ≡ slice_get self.now index }
         ensures none { IfNone result (length self.now ≤ index) }

@@ -122,7 +122,8 @@ fn reference_at(part: &str) -> Option<(char, &str)>
 
 // What stands before the first `&`, and what follows it.
 fn cut_at_reference(text: &str) -> (&str, Option<&str>)
-    ensures parts { slice_split (is_octet 38) text.now ≡ result.0.now ∷ parts_left (option_map (λ rest. rest.now) result.1) }
+    ensures parts { slice_split (is_octet 38) text.now ≡ result.0.now
+        ∷ parts_left (option_map (λ rest. rest.now) result.1) }
     ensures less { octets_left (option_map (λ rest. rest.now) result.1) < length text.now + 1 }
 {
     match cut_at(b'&', text) {

@@ -21,11 +21,14 @@ unchosen true x e = absurd cc
 unchosen false x e = refl
 
 -- what a place that was found is, and what no place says
-pub place_found : (p : ℕ → Bool) (text : List ℕ) (n : ℕ) → position p text ≡ Some n → (position_or_len p text < length text) × (position_or_len p text ≡ n)
-place_found p text n found = let both = chosen (nat_lt (position_or_len p text) (length text)) (position_or_len p text) n found in ((grind (arith, nat_tests, both.0)), both.1)
+pub place_found : (p : ℕ → Bool) (text : List ℕ) (n : ℕ) → position p text ≡ Some n
+    → (position_or_len p text < length text) × (position_or_len p text ≡ n)
+place_found p text n found = let both = chosen (nat_lt (position_or_len p text) (length text)) (position_or_len p text)
+    n found in ((grind (arith, nat_tests, both.0)), both.1)
 
 pub no_place : (p : ℕ → Bool) (text : List ℕ) → position p text ≡ None → length text ≤ position_or_len p text
-no_place p text none = let over = unchosen (nat_lt (position_or_len p text) (length text)) (position_or_len p text) none in grind (arith, nat_tests, over)
+no_place p text none = let over = unchosen (nat_lt (position_or_len p text) (length text)) (position_or_len p text)
+    none in grind (arith, nat_tests, over)
 
 -- ---- words
 
@@ -39,17 +42,22 @@ words_of-blank octet text e = ap (filter is_word) (slice_split-cons_yes is_blank
 at_blank : (octet : ℕ) (text : List ℕ) → is_blank octet ≡ true → position_or_len is_blank (octet ∷ text) ≡ 0
 at_blank octet text e = rw e refl
 
-before_blank : (octet : ℕ) (text : List ℕ) → is_blank octet ≡ false → position_or_len is_blank (octet ∷ text) ≡ suc (position_or_len is_blank text)
+before_blank : (octet : ℕ) (text : List ℕ) → is_blank octet ≡ false
+    → position_or_len is_blank (octet ∷ text) ≡ suc (position_or_len is_blank text)
 before_blank octet text e = rw (e, one-add) refl
 
-blanks_skipped : (text : List ℕ) → words_of (drop (position_or_len (λ octet. not (is_blank octet)) text) text) ≡ words_of text
+blanks_skipped : (text : List ℕ) → words_of (drop (position_or_len (λ octet. not (is_blank octet)) text) text)
+    ≡ words_of text
 blanks_skipped [] = refl
 blanks_skipped (octet ∷ text) = by (is_blank octet) refl (blanks_skipped text)
   where
-    by : (b : Bool) → is_blank octet ≡ b → words_of (drop (position_or_len (λ octet. not (is_blank octet)) text) text) ≡ words_of text
-        → words_of (drop (position_or_len (λ octet. not (is_blank octet)) (octet ∷ text)) (octet ∷ text)) ≡ words_of (octet ∷ text)
+    by : (b : Bool) → is_blank octet ≡ b → words_of (drop (position_or_len (λ octet. not (is_blank octet)) text) text)
+        ≡ words_of text
+        → words_of (drop (position_or_len (λ octet. not (is_blank octet)) (octet ∷ text)) (octet ∷ text))
+        ≡ words_of (octet ∷ text)
     by true e rest =
-        let one : position_or_len (λ octet. not (is_blank octet)) (octet ∷ text) ≡ suc (position_or_len (λ octet. not (is_blank octet)) text) = rw (e, one-add) refl in
+        let one : position_or_len (λ octet. not (is_blank octet)) (octet ∷ text)
+        ≡ suc (position_or_len (λ octet. not (is_blank octet)) text) = rw (e, one-add) refl in
         ap (λ (n : ℕ). words_of (drop n (octet ∷ text))) one ∙ rest ∙ sym (words_of-blank octet text e)
     by false e rest =
         let none : position_or_len (λ octet. not (is_blank octet)) (octet ∷ text) ≡ 0 = rw e refl in
@@ -65,32 +73,48 @@ first_part : (text : List ℕ) → FirstPart text (position_or_len is_blank text
 first_part [] = record { parts = []; split = refl; words = refl }
 first_part (octet ∷ text) = by (is_blank octet) refl (first_part text)
   where
-    by : (b : Bool) → is_blank octet ≡ b → FirstPart text (position_or_len is_blank text) → FirstPart (octet ∷ text) (position_or_len is_blank (octet ∷ text))
+    by : (b : Bool) → is_blank octet ≡ b → FirstPart text (position_or_len is_blank text)
+        → FirstPart (octet ∷ text) (position_or_len is_blank (octet ∷ text))
     by true e rest =
-        let here : FirstPart (octet ∷ text) 0 = record { parts = slice_split is_blank text; split = slice_split-cons_yes is_blank octet text e; words = sym (words_of-blank octet text e) } in
+        let here : FirstPart (octet ∷ text) 0 = record {
+          parts = slice_split is_blank text;
+          split = slice_split-cons_yes is_blank octet text e;
+          words = sym (words_of-blank octet text e);
+        } in
         subst (FirstPart (octet ∷ text)) (sym (at_blank octet text e)) here
     by false e rest =
         let later : FirstPart (octet ∷ text) (suc (position_or_len is_blank text)) =
-        record { parts = rest.parts; split = slice_split-cons_no is_blank octet text e ∙ ap (onto_first octet) rest.split; words = rest.words } in
+        record {
+          parts = rest.parts;
+          split = slice_split-cons_no is_blank octet text e ∙ ap (onto_first octet) rest.split;
+          words = rest.words;
+        } in
         subst (FirstPart (octet ∷ text)) (sym (before_blank octet text e)) later
 
 pub word_begins : (octet : ℕ) (text : List ℕ) → is_blank octet ≡ false
-    → words_of (octet ∷ text) ≡ (octet ∷ take (position_or_len is_blank text) text) ∷ words_of (drop (position_or_len is_blank text) text)
+    → words_of (octet ∷ text) ≡ (octet ∷ take (position_or_len is_blank text) text)
+    ∷ words_of (drop (position_or_len is_blank text) text)
 word_begins octet text e =
     let first = first_part text in
-    ap (filter is_word) (slice_split-cons_no is_blank octet text e ∙ ap (onto_first octet) first.split) ∙ ap (λ (words : List (List ℕ)). (octet ∷ take (position_or_len is_blank text) text) ∷ words) first.words
+    ap (filter is_word) (slice_split-cons_no is_blank octet text e ∙ ap (onto_first octet) first.split)
+    ∙ ap (λ (words : List (List ℕ)). (octet ∷ take (position_or_len is_blank text) text) ∷ words) first.words
 
 word_first : (octet : ℕ) (text : List ℕ) → is_blank octet ≡ false
-    → words_of (octet ∷ text) ≡ take (position_or_len is_blank (octet ∷ text)) (octet ∷ text) ∷ words_of (drop (position_or_len is_blank (octet ∷ text)) (octet ∷ text))
-word_first octet text e = word_begins octet text e ∙ ap (λ (n : ℕ). take n (octet ∷ text) ∷ words_of (drop n (octet ∷ text))) (sym (before_blank octet text e))
+    → words_of (octet ∷ text) ≡ take (position_or_len is_blank (octet ∷ text)) (octet ∷ text)
+    ∷ words_of (drop (position_or_len is_blank (octet ∷ text)) (octet ∷ text))
+word_first octet text e = word_begins octet text e ∙ ap (λ (n : ℕ). take n (octet ∷ text)
+    ∷ words_of (drop n (octet ∷ text))) (sym (before_blank octet text e))
 
-length_or_place : (b : Bool) (place all : ℕ) → (b ≡ false → place ≡ all) → unwrap_or (cond b (Some place) None) all ≡ place
+length_or_place : (b : Bool) (place all : ℕ) → (b ≡ false → place ≡ all)
+    → unwrap_or (cond b (Some place) None) all ≡ place
 length_or_place true place all at_end = refl
 length_or_place false place all at_end = sym (at_end refl)
 
-pub place_or_length : (p : ℕ → Bool) (text : List ℕ) → unwrap_or (position p text) (length text) ≡ position_or_len p text
+pub place_or_length : (p : ℕ → Bool) (text : List ℕ) → unwrap_or (position p text) (length text)
+    ≡ position_or_len p text
 place_or_length p text =
-    length_or_place (nat_lt (position_or_len p text) (length text)) (position_or_len p text) (length text) (λ over. grind (arith, nat_tests, over, prefix_len-le-length (λ (octet : ℕ). not (p octet)) text))
+    length_or_place (nat_lt (position_or_len p text) (length text)) (position_or_len p text) (length text)
+    (λ over. grind (arith, nat_tests, over, prefix_len-le-length (λ (octet : ℕ). not (p octet)) text))
 
 pub no_word : (text : List ℕ) → position (λ octet. not (is_blank octet)) text ≡ None → words_of text ≡ []
 no_word text none =
@@ -102,16 +126,22 @@ word_at_front : (text : List ℕ) → 0 < length text → is_blank (get_or text 
 word_at_front [] some e = absurd (omega arith)
 word_at_front (octet ∷ text) some e = word_first octet text e
 
-pub word_cut : (text rest : List ℕ) (begin : ℕ) (end : Option ℕ) → position (λ octet. not (is_blank octet)) text ≡ Some begin → rest ≡ drop begin text → end ≡ position is_blank rest
+pub word_cut : (text rest : List ℕ) (begin : ℕ) (end : Option ℕ)
+    → position (λ octet. not (is_blank octet)) text ≡ Some begin → rest ≡ drop begin text → end ≡ position is_blank rest
     → words_of text ≡ take (unwrap_or end (length rest)) rest ∷ words_of (drop (unwrap_or end (length rest)) rest)
 word_cut text rest begin end found rest_is end_is =
     let place = place_found (λ octet. not (is_blank octet)) text begin found in
     let passes = passes_at_first (λ octet. not (is_blank octet)) text 0 place.0 in
-    let here : get_or rest 0 0 ≡ get_or text begin 0 = ap (λ (t : List ℕ). get_or t 0 0) rest_is ∙ (let added : begin + 0 ≡ begin = omega arith in get_or-drop begin text 0 0 ∙ ap (λ (n : ℕ). get_or text n 0) added) in
-    let letter : is_blank (get_or rest 0 0) ≡ false = ap is_blank (here ∙ ap (λ (n : ℕ). get_or text n 0) (sym place.1)) ∙ not_not _ passes in
+    let here : get_or rest 0 0 ≡ get_or text begin 0 = ap (λ (t : List ℕ). get_or t 0 0) rest_is
+    ∙ (let added : begin + 0 ≡ begin = omega arith in get_or-drop begin text 0 0
+    ∙ ap (λ (n : ℕ). get_or text n 0) added) in
+    let letter : is_blank (get_or rest 0 0) ≡ false =
+    ap is_blank (here ∙ ap (λ (n : ℕ). get_or text n 0) (sym place.1)) ∙ not_not _ passes in
     let some : 0 < length rest = omega (arith, ap length rest_is, length-drop begin text, place.0, place.1) in
-    let skipped : words_of text ≡ words_of rest = sym (blanks_skipped text) ∙ ap (λ (n : ℕ). words_of (drop n text)) place.1 ∙ ap words_of (sym rest_is) in
-    let until : unwrap_or end (length rest) ≡ position_or_len is_blank rest = ap (λ (o : Option ℕ). unwrap_or o (length rest)) end_is ∙ place_or_length is_blank rest in
+    let skipped : words_of text ≡ words_of rest =
+    sym (blanks_skipped text) ∙ ap (λ (n : ℕ). words_of (drop n text)) place.1 ∙ ap words_of (sym rest_is) in
+    let until : unwrap_or end (length rest) ≡ position_or_len is_blank rest =
+    ap (λ (o : Option ℕ). unwrap_or o (length rest)) end_is ∙ place_or_length is_blank rest in
     skipped ∙ word_at_front rest some letter ∙ ap (λ (n : ℕ). take n rest ∷ words_of (drop n rest)) (sym until)
 
 pub both_true : (a b : Bool) → (a && b) ≡ true → (a ≡ true) × (b ≡ true)
@@ -131,24 +161,31 @@ text_is_utf8 text e = IsUtf8-from_ascii text (text_ascii text e)
 
 -- ---- lines
 
-lines_of_more : (part : List ℕ) (text : List ℕ) (parts : List (List ℕ)) → slice_split (λ octet. octet == 10) text ≡ parts → 0 < length parts → lines_of_parts (part ∷ parts) ≡ strip_carriage_return part ∷ lines_of_parts parts
+lines_of_more : (part : List ℕ) (text : List ℕ) (parts : List (List ℕ))
+    → slice_split (λ octet. octet == 10) text ≡ parts → 0 < length parts
+    → lines_of_parts (part ∷ parts) ≡ strip_carriage_return part ∷ lines_of_parts parts
 lines_of_more part text [] is some = absurd (omega arith)
 lines_of_more part text (first ∷ parts) is some = refl
 
-pub line_cut : (text rest : List ℕ) (end : ℕ) → position (λ octet. octet == 10) text ≡ Some end → rest ≡ drop (end + 1) text
+pub line_cut : (text rest : List ℕ) (end : ℕ) → position (λ octet. octet == 10) text ≡ Some end
+    → rest ≡ drop (end + 1) text
     → (lines text ≡ strip_carriage_return (take end text) ∷ lines rest) × (length rest < length text)
 line_cut text rest end found rest_is =
     let place = place_found (λ octet. octet == 10) text end found in
     let split : slice_split (λ octet. octet == 10) text ≡ take end text ∷ slice_split (λ octet. octet == 10) rest =
-    slice_split_first (λ octet. octet == 10) text 0 place.0 ∙ ap (λ (n : ℕ). take n text ∷ slice_split (λ octet. octet == 10) (drop (n + 1) text)) place.1
+    slice_split_first (λ octet. octet == 10) text 0 place.0 ∙ ap
+    (λ (n : ℕ). take n text ∷ slice_split (λ octet. octet == 10) (drop (n + 1) text)) place.1
     ∙ ap (λ (t : List ℕ). take end text ∷ slice_split (λ octet. octet == 10) t) (sym rest_is) in (
-      ap lines_of_parts split ∙ lines_of_more (take end text) rest _ refl (omega (arith, length-slice_split (λ (octet : ℕ). octet == 10) rest)),
+      ap lines_of_parts split ∙ lines_of_more (take end text) rest _ refl
+          (omega (arith, length-slice_split (λ (octet : ℕ). octet == 10) rest)),
       omega (arith, ap length rest_is, length-drop (end + 1) text, place.0, place.1),
     )
 
-pub no_line_feed : (text : List ℕ) → position (λ octet. octet == 10) text ≡ None → 0 < length text → lines text ≡ text ∷ []
+pub no_line_feed : (text : List ℕ) → position (λ octet. octet == 10) text ≡ None → 0 < length text → lines text ≡ text
+    ∷ []
 no_line_feed text none some =
     let over = no_place (λ octet. octet == 10) text none in
     let parts : slice_split (λ octet. octet == 10) text ≡ text ∷ [] =
-    slice_split_none (λ octet. octet == 10) text (λ k d within. fails_before_first (λ octet. octet == 10) text k d (omega arith)) in
+    slice_split_none (λ octet. octet == 10) text (λ k d within. fails_before_first (λ octet. octet == 10) text k d
+    (omega arith)) in
     ap lines_of_parts parts ∙ (grind (arith, nat_tests))

@@ -5,10 +5,13 @@ use Rattle.knx_base.specs.Files.{File, Seen, Holds, octets_named}
 use Rattle.text_lines.specs.Reading.{CurrentHas, WhereTold, ahead, GoesOn, TakesOctet, count_of}
 
 -- what is told of the current file at one moment is told later
-pub has_same : (old new : Seen) (held kept : List ℕ) (n : ℕ) → GoesOn old new held kept n → (octets : List ℕ) → CurrentHas old octets → CurrentHas new octets
+pub has_same : (old new : Seen) (held kept : List ℕ) (n : ℕ) → GoesOn old new held kept n → (octets : List ℕ)
+    → CurrentHas old octets → CurrentHas new octets
 has_same old new held kept n goes octets has =
-    let by_current : IsSomeAnd new.current (λ name. Holds old name octets) = subst (λ (o : Option (List ℕ)). IsSomeAnd o (λ name. Holds old name octets)) (sym goes.current) has in
-    subst (λ (told : Option (List File)). IsSomeAnd new.current (λ name. IsSomeAnd told (λ files. octets_named files name ≡ Some octets))) (sym goes.told) by_current
+    let by_current : IsSomeAnd new.current (λ name. Holds old name octets) =
+    subst (λ (o : Option (List ℕ)). IsSomeAnd o (λ name. Holds old name octets)) (sym goes.current) has in
+    subst (λ (told : Option (List File)). IsSomeAnd new.current
+    (λ name. IsSomeAnd told (λ files. octets_named files name ≡ Some octets))) (sym goes.told) by_current
 
 -- nothing was taken
 pub stays : (seen : Seen) (held : List ℕ) → GoesOn seen seen held held 0
@@ -26,7 +29,8 @@ stays seen held = record {
 }
 
 -- what was held may count as taken, or as not
-pub takes_less : (old new : Seen) (held kept left : List ℕ) (n m : ℕ) → length left + m ≤ length kept + n → GoesOn old new held kept n → GoesOn old new held left m
+pub takes_less : (old new : Seen) (held kept left : List ℕ) (n m : ℕ) → length left + m ≤ length kept + n
+    → GoesOn old new held kept n → GoesOn old new held left m
 takes_less old new held kept left n m no_more goes = record {
   told = goes.told;
   current = goes.current;
@@ -41,7 +45,8 @@ takes_less old new held kept left n m no_more goes = record {
 }
 
 -- what was taken first and then
-pub goes_then : (old mid new : Seen) (held between kept : List ℕ) (n m : ℕ) → GoesOn old mid held between n → GoesOn mid new between kept m → GoesOn old new held kept (n + m)
+pub goes_then : (old mid new : Seen) (held between kept : List ℕ) (n m : ℕ) → GoesOn old mid held between n
+    → GoesOn mid new between kept m → GoesOn old new held kept (n + m)
 goes_then old mid new held between kept n m first then_ = record {
   told = then_.told ∙ first.told;
   current = then_.current ∙ first.current;
@@ -49,24 +54,32 @@ goes_then old mid new held between kept n m first then_ = record {
   last = λ within. then_.last (first.last within);
   taken = omega (arith, first.taken, then_.taken);
   less = omega (arith, first.less, then_.less);
-  placed = λ name is told at. then_.placed name (first.current ∙ is) (subst (λ (o : Option (List File)). IsSome o) (sym first.told) told) (first.placed name is told at);
-  others = λ other not_current. then_.others other (λ is. not_current (sym first.current ∙ is)) ∙ first.others other not_current;
-  within = λ octets has within. then_.within octets (has_same old mid held between n first octets has) (first.within octets has within);
+  placed = λ name is told at. then_.placed name (first.current ∙ is)
+      (subst (λ (o : Option (List File)). IsSome o) (sym first.told) told) (first.placed name is told at);
+  others = λ other not_current. then_.others other (λ is. not_current (sym first.current ∙ is))
+      ∙ first.others other not_current;
+  within = λ octets has within. then_.within octets (has_same old mid held between n first octets has)
+      (first.within octets has within);
   no_fault = then_.no_fault ∙ first.no_fault;
 }
 
 -- one more octet was taken
-pub octet_taken : (start now next : Seen) (held between kept line : List ℕ) (n octet : ℕ) (taken : Option ℕ) → taken ≡ Some octet → GoesOn start now held between n
-    → WhereTold start (λ octets. ahead start held octets ≡ line ++ ahead now between octets) → TakesOctet now next between kept taken
+pub octet_taken : (start now next : Seen) (held between kept line : List ℕ) (n octet : ℕ) (taken : Option ℕ)
+    → taken ≡ Some octet → GoesOn start now held between n
+    → WhereTold start (λ octets. ahead start held octets ≡ line ++ ahead now between octets)
+    → TakesOctet now next between kept taken
     → WhereTold start (λ octets. ahead start held octets ≡ line ++ octet ∷ ahead next kept octets)
 octet_taken start now next held between kept line n octet None is goes given takes = absurd cc
 octet_taken start now next held between kept line n octet (Some b) is goes given takes = λ octets has.
     let same : b ≡ octet = cc in
-    given octets has ∙ ap (λ (rest : List ℕ). line ++ rest) (takes octets (has_same start now held between n goes octets has) ∙ ap (λ (x : ℕ). x ∷ ahead next kept octets) same)
+    given octets has ∙ ap (λ (rest : List ℕ). line ++ rest) (takes octets
+    (has_same start now held between n goes octets has) ∙ ap (λ (x : ℕ). x ∷ ahead next kept octets) same)
 
 -- the end was found
-pub none_taken : (start now next : Seen) (held between kept line : List ℕ) (n : ℕ) (taken : Option ℕ) → taken ≡ None → GoesOn start now held between n
-    → WhereTold start (λ octets. ahead start held octets ≡ line ++ ahead now between octets) → TakesOctet now next between kept taken
+pub none_taken : (start now next : Seen) (held between kept line : List ℕ) (n : ℕ) (taken : Option ℕ) → taken ≡ None
+    → GoesOn start now held between n
+    → WhereTold start (λ octets. ahead start held octets ≡ line ++ ahead now between octets)
+    → TakesOctet now next between kept taken
     → (kept ≡ []) × WhereTold start (λ octets. (ahead start held octets ≡ line) × (drop next.place octets ≡ []))
 none_taken start now next held between kept line n (Some b) is goes given takes = absurd cc
 none_taken start now next held between kept line n None is goes given takes = (
@@ -77,6 +90,9 @@ none_taken start now next held between kept line n None is goes given takes = (
 )
 
 -- reading on by one octet, in a loop that counts them
-pub goes_octet : (old mid new : Seen) (held between kept : List ℕ) (n all octet : ℕ) (taken : Option ℕ) → taken ≡ Some octet → all ≡ n + 1 → GoesOn old mid held between n → GoesOn mid new between kept (count_of taken) → GoesOn old new held kept all
+pub goes_octet : (old mid new : Seen) (held between kept : List ℕ) (n all octet : ℕ) (taken : Option ℕ)
+    → taken ≡ Some octet → all ≡ n + 1 → GoesOn old mid held between n → GoesOn mid new between kept (count_of taken)
+    → GoesOn old new held kept all
 goes_octet old mid new held between kept n all octet None is all_is first then_ = absurd cc
-goes_octet old mid new held between kept n all octet (Some b) is all_is first then_ = subst (GoesOn old new held kept) (sym all_is) (goes_then old mid new held between kept n 1 first then_)
+goes_octet old mid new held between kept n all octet (Some b) is all_is first then_ =
+    subst (GoesOn old new held kept) (sym all_is) (goes_then old mid new held between kept n 1 first then_)

@@ -1,5 +1,5 @@
--- Texts of lines, as tables, lists of frames and scripts are. A line ends with a line feed, or a carriage return and a line
--- feed, and the last may end with the text: `lines` of std says which lines a text has.
+-- Texts of lines, as tables, lists of frames and scripts are. A line ends with a line feed, or a carriage return and a
+-- line feed, and the last may end with the text: `lines` of std says which lines a text has.
 use Rattle.std.specs.Prelude.{◌≡◌, ℕ, ◌<◌, ◌≤◌, ◌⊎◌, ◌++◌, ◌==◌, ◌||◌, ◌&&◌, nat_le, nat_lt, Bool, true, false, if◌then◌else◌, List, [], ◌∷◌, length, slice_index, Option, Some, None, Result, Ok, Err}
 use Rattle.std.specs.List.{filter, list_all, slice_split}
 use Rattle.knx_base.specs.declared.cause.Cause.{Cause}
@@ -39,12 +39,14 @@ pub record IsSkipped (line : List ℕ) : Type 0 where
   pub are_blank : list_all is_blank blanks ≡ true
   pub comment : (rest ≡ []) ⊎ (slice_index rest 0 ≡ 35)
 
--- What a line says, by the answer: it is too long; else it says nothing; else it has an octet that no line may have; else its words.
+-- What a line says, by the answer: it is too long; else it says nothing; else it has an octet that no line may have;
+-- else its words.
 abbrev pub Says : List ℕ → Result (Option (List (List ℕ))) Cause → Type 0
 Says line (Err cause.Long) = most_octets < length line
 Says line (Ok None) = (length line ≤ most_octets) × IsSkipped line
 Says line (Err cause.Words) = (length line ≤ most_octets) × (IsSkipped line → ⊥) × (list_all is_text line ≡ false)
-Says line (Ok (Some words)) = (length line ≤ most_octets) × (IsSkipped line → ⊥) × (list_all is_text line ≡ true) × (words ≡ words_of line)
+Says line (Ok (Some words)) =
+    (length line ≤ most_octets) × (IsSkipped line → ⊥) × (list_all is_text line ≡ true) × (words ≡ words_of line)
 Says line (Err fault) = ⊥
 
 -- the one such answer

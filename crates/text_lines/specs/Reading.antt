@@ -31,7 +31,8 @@ pub record GoesOn (old new : Seen) (held kept : List ℕ) (n : ℕ) : Type 0 whe
   pub last : old.place ≤ last_place → new.place ≤ last_place
   pub taken : old.place + length kept + n ≤ new.place + length held
   pub less : to_come new kept + n ≤ to_come old held
-  pub placed : (name : List ℕ) → old.current ≡ Some name → IsSome old.told → old.places name ≡ old.place → new.places name ≡ new.place
+  pub placed : (name : List ℕ) → old.current ≡ Some name → IsSome old.told → old.places name ≡ old.place
+      → new.places name ≡ new.place
   pub others : (other : List ℕ) → old.current ≢ Some other → new.places other ≡ old.places other
   pub within : (octets : List ℕ) → CurrentHas old octets → old.place ≤ length octets → new.place ≤ length octets
   pub no_fault : new.faults ≡ old.faults
@@ -56,14 +57,17 @@ least_of End = 0
 least_of Whole = 1
 least_of Long = 1
 
--- The lines that were ahead begin with this one and go on with those that are ahead now; or there was none, to the end of the file;
--- or the first was too long.
+-- The lines that were ahead begin with this one and go on with those that are ahead now; or there was none, to the end
+-- of the file; or the first was too long.
 abbrev pub ReadsLine : Seen → Seen → List ℕ → List ℕ → List ℕ → LineRead → Type 0
-ReadsLine old new held kept line End = (kept ≡ []) × WhereTold old (λ octets. (lines (ahead old held octets) ≡ []) × (drop new.place octets ≡ []))
-ReadsLine old new held kept line Whole = (length line ≤ most_octets) × WhereTold old (λ octets. lines (ahead old held octets) ≡ line ∷ lines (ahead new kept octets))
+ReadsLine old new held kept line End =
+    (kept ≡ []) × WhereTold old (λ octets. (lines (ahead old held octets) ≡ []) × (drop new.place octets ≡ []))
+ReadsLine old new held kept line Whole = (length line ≤ most_octets)
+    × WhereTold old (λ octets. lines (ahead old held octets) ≡ line ∷ lines (ahead new kept octets))
 ReadsLine old new held kept line Long = WhereTold old (λ octets. BeginsLong (lines (ahead old held octets)))
 
--- Reading to the end of a file, where so many octets are the most: the octets ahead, and the end was reached; or there are more.
+-- Reading to the end of a file, where so many octets are the most: the octets ahead, and the end was reached; or there
+-- are more.
 abbrev pub ReadsRest : ℕ → List ℕ → List ℕ → Option (List ℕ) → Type 0
 ReadsRest most before after None = most < length before
 ReadsRest most before after (Some text) = (text ≡ before) × (length text ≤ most) × (after ≡ [])

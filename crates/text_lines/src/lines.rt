@@ -43,7 +43,8 @@ impl<'a> Lines<'a> {
     /// The next line without its end, and its number, counted from 1.
     pub fn next(&mut self) -> Option<(u64, &'a [u8])>
         ensures line { MatchOption result (self.old.left ≡ []) (λ line. self.old.left ≡ line.1.now ∷ self.new.left) }
-        ensures number { MatchOption result (self.new ≡ self.old) (λ line. (line.0 ≡ self.old.given + 1) × (self.new.given ≡ line.0)) }
+        ensures number { MatchOption result (self.new ≡ self.old)
+            (λ line. (line.0 ≡ self.old.given + 1) × (self.new.given ≡ line.0)) }
     {
         let (line, rest) = first_line(self.rest)?;
         self.rest = rest;
@@ -54,7 +55,8 @@ impl<'a> Lines<'a> {
 
 // The first line, and what comes after its end.
 fn first_line(text: &[u8]) -> Option<(&[u8], &[u8])>
-    ensures cut { MatchOption result (lines text.now ≡ []) (λ cut. (lines text.now ≡ cut.0.now ∷ lines cut.1.now) × (length cut.1.now < length text.now)) }
+    ensures cut { MatchOption result (lines text.now ≡ []) (λ cut. (lines text.now ≡ cut.0.now ∷ lines cut.1.now)
+        × (length cut.1.now < length text.now)) }
 {
     if text.is_empty() {
         return None;
@@ -116,8 +118,10 @@ fn text_of(word: &[u8]) -> Option<&str>
 
 // The first word, and what comes after it.
 fn first_word(text: &[u8]) -> Option<(&[u8], &[u8])>
-    ensures cut { MatchOption result (words_of text.now ≡ []) (λ cut. words_of text.now ≡ cut.0.now ∷ words_of cut.1.now) }
-    ensures text { IfSome result (λ cut. list_all is_text text.now ≡ true → (list_all is_text cut.0.now ≡ true) × (list_all is_text cut.1.now ≡ true)) }
+    ensures cut { MatchOption result (words_of text.now ≡ [])
+        (λ cut. words_of text.now ≡ cut.0.now ∷ words_of cut.1.now) }
+    ensures text { IfSome result (λ cut. list_all is_text text.now ≡ true → (list_all is_text cut.0.now ≡ true)
+        × (list_all is_text cut.1.now ≡ true)) }
 {
     let Some(begin) = place_of_word(text) else {
         return None;

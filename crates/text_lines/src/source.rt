@@ -8,8 +8,8 @@ use std::marker::Model;
 
 const STORE: usize = 512;
 
-/// The octets of the current file one after the other, read in pieces into a store of its own. A contract sees the octets
-/// that were read and not yet taken.
+/// The octets of the current file one after the other, read in pieces into a store of its own. A contract sees the
+/// octets that were read and not yet taken.
 #[derive(Drop)]
 pub struct Source {
     store: [u8; STORE],
@@ -64,8 +64,10 @@ impl Source {
         requires empty { self.old ≡ [] }
         ensures told { (F.seen files.new).told ≡ (F.seen files.old).told }
         ensures goes { OnOk result (GoesOn (F.seen files.old) (F.seen files.new) [] self.new 0) }
-        ensures given { OnOk result (WhereTold (F.seen files.old) (λ octets. drop (F.seen files.old).place octets ≡ ahead (F.seen files.new) self.new octets)) }
-        ensures end { OnOk result (self.new ≡ [] → WhereTold (F.seen files.old) (λ octets. drop (F.seen files.new).place octets ≡ [])) }
+        ensures given { OnOk result (WhereTold (F.seen files.old)
+            (λ octets. drop (F.seen files.old).place octets ≡ ahead (F.seen files.new) self.new octets)) }
+        ensures end { OnOk result (self.new ≡ [] → WhereTold (F.seen files.old)
+            (λ octets. drop (F.seen files.new).place octets ≡ [])) }
         ensures failed { OnErr result (self.new ≡ []) }
         ensures cause { HasCause (F.seen files.old).faults (F.seen files.new).faults result }
     {
@@ -79,8 +81,10 @@ impl Source {
     pub fn next<F: Files>(&mut self, files: &mut F) -> Result<Option<u8>, Failed>
         requires current { IsSome (F.seen files.old).current }
         ensures told { (F.seen files.new).told ≡ (F.seen files.old).told }
-        ensures goes { IfOk result (λ octet. GoesOn (F.seen files.old) (F.seen files.new) self.old self.new (count_of octet)) }
-        ensures given { IfOk result (λ octet. TakesOctet (F.seen files.old) (F.seen files.new) self.old self.new octet) }
+        ensures goes { IfOk result (λ octet. GoesOn (F.seen files.old) (F.seen files.new) self.old self.new
+            (count_of octet)) }
+        ensures given { IfOk result (λ octet. TakesOctet (F.seen files.old) (F.seen files.new) self.old self.new
+            octet) }
         ensures failed { OnErr result ((self.old ≡ []) × (self.new ≡ [])) }
         ensures cause { HasCause (F.seen files.old).faults (F.seen files.new).faults result }
     {

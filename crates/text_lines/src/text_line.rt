@@ -95,7 +95,8 @@ impl TextLine {
     fn end_at_file_end(&self) -> LineRead
         ensures taken { least_of result ≤ length self.now }
         ensures end { self.now ≡ [] → result ≡ LineRead.End }
-        ensures line { self.now ≢ [] → result ≡ (if nat_lt 1024 (length self.now) then LineRead.Long else LineRead.Whole) }
+        ensures line { self.now ≢ [] → result ≡ (if nat_lt 1024 (length self.now) then LineRead.Long
+            else LineRead.Whole) }
     {
         if self.len == 0 {
             LineRead::End
@@ -116,8 +117,8 @@ impl TextLine {
     }
 }
 
-/// Reads the next line of the current file. A line ends with a line feed, or a carriage return and a line feed; the last may
-/// end with the file.
+/// Reads the next line of the current file. A line ends with a line feed, or a carriage return and a line feed; the
+/// last may end with the file.
 pub fn read_line<F: Files>(
     source: &mut Source,
     files: &mut F,
@@ -125,8 +126,10 @@ pub fn read_line<F: Files>(
 ) -> Result<LineRead, Failed>
     requires current { IsSome (F.seen files.old).current }
     ensures told { (F.seen files.new).told ≡ (F.seen files.old).told }
-    ensures goes { IfOk result (λ read. GoesOn (F.seen files.old) (F.seen files.new) source.old source.new (least_of read)) }
-    ensures line { IfOk result (λ read. ReadsLine (F.seen files.old) (F.seen files.new) source.old source.new line.new read) }
+    ensures goes { IfOk result (λ read. GoesOn (F.seen files.old) (F.seen files.new) source.old source.new
+        (least_of read)) }
+    ensures line { IfOk result (λ read. ReadsLine (F.seen files.old) (F.seen files.new) source.old source.new line.new
+        read) }
     ensures failed { OnErr result (source.new ≡ []) }
     ensures cause { HasCause (F.seen files.old).faults (F.seen files.new).faults result }
 {

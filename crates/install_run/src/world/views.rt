@@ -33,7 +33,8 @@ impl World {
 
     /// The octets of the telegram with this number, lost or not. None is 0 and a number that no telegram has yet.
     pub fn telegram(&self, number: u32) -> Option<&[u8]>
-        ensures telegram { option_map (λ octets. octets.now) result ≡ option_map (λ t. t.octets) (telegram_in self.now.world.air number) }
+        ensures telegram { option_map (λ octets. octets.now) result
+            ≡ option_map (λ t. t.octets) (telegram_in self.now.world.air number) }
     {
         match telegram_in(&self.air, number) {
             Some(telegram) => Some(telegram.octets()),

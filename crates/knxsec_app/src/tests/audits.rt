@@ -41,15 +41,18 @@ const READABLE: &str =
 const ONCE: &str = "2900bce011070a030e03f1100000000000050d5858028267\n";
 
 /// A device 1.1.9 with a tool key, which 1.1.7 may manage.
-const DEVICE_TABLES: &str =
-    "group 1/2/3 000102030405060708090a0b0c0d0e0f conf\nrole 1/2/3 1.1.7 command\ntool 1.1.9 000102030405060708090a0b0c0d0e0f\nrole tool:1.1.9 1.1.7 manage\n";
+const DEVICE_TABLES: &str = "group 1/2/3 000102030405060708090a0b0c0d0e0f conf\n\
+     role 1/2/3 1.1.7 command\n\
+     tool 1.1.9 000102030405060708090a0b0c0d0e0f\n\
+     role tool:1.1.9 1.1.7 manage\n";
 
 /// From 1.1.7 to 1.1.9 under number 2, a request of a synchronisation, and its answer under number 1.
-const EXCHANGE: &str =
-    "29003c60110711091203f192000000000002fd82b40668d40a240653\n29003c60110911071803f193010203040507447c61778fc4ec5016de976dd7fdfa50\n";
+const EXCHANGE: &str = "29003c60110711091203f192000000000002fd82b40668d40a240653\n\
+     29003c60110911071803f193010203040507447c61778fc4ec5016de976dd7fdfa50\n";
 
 fn audit_words(alloc: Global) -> Result<Vec<String>, NoMemory>
-    ensures { IfOk result (λ words. map string_bytes words.items ≡ codes "audit" ∷ codes "tables" ∷ codes "frames" ∷ []) }
+    ensures { IfOk result (λ words. map string_bytes words.items ≡ codes "audit" ∷ codes "tables" ∷ codes "frames"
+        ∷ []) }
 {
     let mut words = Vec::new(alloc);
     words.push(String::from_str(alloc, "audit")?)?;
@@ -92,25 +95,33 @@ fn each_record_is_judged_by_those_before_it(rt: HostRuntime) -> Result<(), Fail>
         (
             TABLES,
             TWICE,
-            "1 1.1.7 > 1/2/3 accepted number 5 GroupValue_Write 0081\n2 1.1.7 > 1/2/3 stale kept 5 got 5 !\ntotal 2 accepted 1 sync 0 alarms 1\n",
+            "1 1.1.7 > 1/2/3 accepted number 5 GroupValue_Write 0081\n\
+             2 1.1.7 > 1/2/3 stale kept 5 got 5 !\n\
+             total 2 accepted 1 sync 0 alarms 1\n",
             Status::Alarm,
         ),
         (
             TABLES,
             REPEATED,
-            "1 1.1.7 > 1/2/3 accepted number 5 GroupValue_Write 0081\n2 1.1.7 > 1/2/3 repeat stale kept 5 got 5\ntotal 2 accepted 1 sync 0 alarms 0\n",
+            "1 1.1.7 > 1/2/3 accepted number 5 GroupValue_Write 0081\n\
+             2 1.1.7 > 1/2/3 repeat stale kept 5 got 5\n\
+             total 2 accepted 1 sync 0 alarms 0\n",
             Status::Done,
         ),
         (
             OBSERVER_TABLES,
             TWICE,
-            "1 1.1.7 > 1/2/3 role needs command has observe !\n2 1.1.7 > 1/2/3 stale kept 5 got 5 !\ntotal 2 accepted 0 sync 0 alarms 2\n",
+            "1 1.1.7 > 1/2/3 role needs command has observe !\n\
+             2 1.1.7 > 1/2/3 stale kept 5 got 5 !\n\
+             total 2 accepted 0 sync 0 alarms 2\n",
             Status::Alarm,
         ),
         (
             DEVICE_TABLES,
             EXCHANGE,
-            "1 1.1.7 > 1.1.9 sync-ask number 2 challenge 010203040506\n2 1.1.9 > 1.1.7 sync-answer number 1 kept 500\ntotal 2 accepted 0 sync 2 alarms 0\n",
+            "1 1.1.7 > 1.1.9 sync-ask number 2 challenge 010203040506\n\
+             2 1.1.9 > 1.1.7 sync-answer number 1 kept 500\n\
+             total 2 accepted 0 sync 2 alarms 0\n",
             Status::Done,
         ),
     ];
@@ -134,7 +145,9 @@ fn a_readable_telegram_is_kept_whatever_its_level(rt: HostRuntime) -> Result<(),
         (
             AUTH_TABLES,
             READABLE,
-            "1 1.1.7 > 1/2/3 accepted number 6 GroupValue_Write 0081\n2 1.1.7 > 1/2/3 stale kept 6 got 5 !\ntotal 2 accepted 1 sync 0 alarms 1\n",
+            "1 1.1.7 > 1/2/3 accepted number 6 GroupValue_Write 0081\n\
+             2 1.1.7 > 1/2/3 stale kept 6 got 5 !\n\
+             total 2 accepted 1 sync 0 alarms 1\n",
             Status::Alarm,
         ),
     ];
@@ -152,13 +165,20 @@ fn readable_frames_and_records_that_are_none_are_told(rt: HostRuntime) -> Result
         (
             TABLES,
             "2900bce011070a03010081\n2b00bc11070a03e100813c\n2b0703010004021234bc11070a03e100813c\n",
-            "1 1.1.7 > 1/2/3 plain GroupValue_Write !\n2 1.1.7 > 1/2/3 plain GroupValue_Write !\n3 1.1.7 > 1/2/3 plain GroupValue_Write !\ntotal 3 accepted 0 sync 0 alarms 3\n",
+            "1 1.1.7 > 1/2/3 plain GroupValue_Write !\n\
+             2 1.1.7 > 1/2/3 plain GroupValue_Write !\n\
+             3 1.1.7 > 1/2/3 plain GroupValue_Write !\n\
+             total 3 accepted 0 sync 0 alarms 3\n",
             Status::Alarm,
         ),
         (
             TABLES,
             "2b00bc11070a03e100813d\n2b00cc\n# a comment\n2900bce011070a030100\n\n2900bce011070a03ff\n",
-            "1 - not-frame check 3d 3c\n2 - not-frame acknowledge cc\n3 - not-frame length 2 1\n4 - not-frame escape\ntotal 4 accepted 0 sync 0 alarms 0\n",
+            "1 - not-frame check 3d 3c\n\
+             2 - not-frame acknowledge cc\n\
+             3 - not-frame length 2 1\n\
+             4 - not-frame escape\n\
+             total 4 accepted 0 sync 0 alarms 0\n",
             Status::Done,
         ),
         (
@@ -254,7 +274,8 @@ fn an_audit_of_the_host_s_files(rt: HostRuntime) -> Result<(), Fail> {
     Ok(())
 }
 
-// Telegrams of 300 senders to the group 1/2/3, each sealed for its sender under number 5: twice the first, and each other once.
+// Telegrams of 300 senders to the group 1/2/3, each sealed for its sender under number 5: twice the first, and each
+// other once.
 fn senders(alloc: Global) -> Result<String, Fail> {
     let key = Key128::new(KEY);
     let mut frames = String::new(alloc);

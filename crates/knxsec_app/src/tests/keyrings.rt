@@ -32,16 +32,17 @@ const HOUSE: &str = r#"<?xml version="1.0" encoding="utf-8"?>
 </Keyring>
 "#;
 
-/// One telegram to each of two groups of the keyring, by different senders, each a GroupValue_Write of 1 that another program
-/// has sealed under the key of its group.
+/// One telegram to each of two groups of the keyring, by different senders, each a GroupValue_Write of 1 that another
+/// program has sealed under the key of its group.
 const FRAMES: &str =
     "2900bce0110a08010e03f110000000000001362b1d3d40f2\n2900bce0111408060e03f11000000000000c8ce297509ace\n";
 
-const REPORT: &str =
-    "1 1.1.10 > 1/0/1 accepted number 1 GroupValue_Write 0081\n2 1.1.20 > 1/0/6 accepted number 12 GroupValue_Write 0081\ntotal 2 accepted 2 sync 0 alarms 0\n";
+const REPORT: &str = "1 1.1.10 > 1/0/1 accepted number 1 GroupValue_Write 0081\n\
+     2 1.1.20 > 1/0/6 accepted number 12 GroupValue_Write 0081\n\
+     total 2 accepted 2 sync 0 alarms 0\n";
 
-/// The tables, the recording and the report of the folder `examples`: its telegrams were sealed by another program, and its report
-/// was written by the rules.
+/// The tables, the recording and the report of the folder `examples`: its telegrams were sealed by another program, and
+/// its report was written by the rules.
 const HOUSE_TABLES: &str = r#"# What the keyring does not say, or says too widely.
 # 1/0/1 switches lamps: its telegrams have to be encrypted.
 group 1/0/1 01010101010101010101010101010101 conf
@@ -97,7 +98,8 @@ total 13 accepted 4 sync 0 alarms 6
 const NEVER: u64 = 1_000_000;
 
 fn audit_words(alloc: Global) -> Result<Vec<String>, NoMemory>
-    ensures { IfOk result (λ words. map string_bytes words.items ≡ codes "audit-keyring" ∷ codes "keyring" ∷ codes "password" ∷ codes "tables" ∷ codes "frames" ∷ []) }
+    ensures { IfOk result (λ words. map string_bytes words.items ≡ codes "audit-keyring" ∷ codes "keyring"
+        ∷ codes "password" ∷ codes "tables" ∷ codes "frames" ∷ []) }
 {
     let mut words = Vec::new(alloc);
     words.push(String::from_str(alloc, "audit-keyring")?)?;

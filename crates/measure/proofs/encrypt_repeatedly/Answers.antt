@@ -12,4 +12,5 @@ unfolding cipher_repeated
 each-preserved c =
     c.encrypt_block.ensures
     ∙ ap (cipher c.args.key.now) c.each.invariant
-    ∙ ap (cipher_repeated c.args.key.now c.args.block.now) (let next : suc c.each.counter ≡ c.each.counter + 1 = omega arith in next)
+    ∙ ap (cipher_repeated c.args.key.now c.args.block.now) (let next : suc c.each.counter ≡ c.each.counter
+    + 1 = omega arith in next)

@@ -11,7 +11,8 @@ impl SeqStore<SimNvm> {
         requires counts_from_one { 1 ≤ write }
         ensures armed { let old = sim_state (store_state self.old).memory in
             sim_state (store_state self.new).memory ≡ record old { plan = option_map (with_cut write torn) old.plan } }
-        ensures unchanged { store_state self.new ≡ record (store_state self.old) { memory = (store_state self.new).memory } }
+        ensures unchanged { store_state self.new ≡ record (store_state self.old)
+            { memory = (store_state self.new).memory } }
     {
         self.memory.arm_cut(write, torn);
     }
@@ -20,8 +21,12 @@ impl SeqStore<SimNvm> {
     pub fn arm_fail(&mut self, write: u32, torn: u8)
         requires counts_from_one { 1 ≤ write }
         ensures armed { let old = sim_state (store_state self.old).memory in
-            sim_state (store_state self.new).memory ≡ record old { plan = option_map (with_fault write torn) old.plan } }
-        ensures unchanged { store_state self.new ≡ record (store_state self.old) { memory = (store_state self.new).memory } }
+            sim_state (store_state self.new).memory ≡ record old {
+              plan = option_map (with_fault write torn)
+                  old.plan;
+            } }
+        ensures unchanged { store_state self.new ≡ record (store_state self.old)
+            { memory = (store_state self.new).memory } }
     {
         self.memory.arm_fail(write, torn);
     }

@@ -1,6 +1,6 @@
 ghost use Rattle.std.specs.Prelude.{◌≡◌, ℕ, ◌+◌, ◌^◌, ◌<◌, ◌≤◌, ◌↔◌, true, IsTrue, IsOk, IsNone, OnOk, OnErr};
 ghost use Rattle.nvm_model.specs.Nvm.{fault_of};
-ghost use Rattle.seq_store.specs.Calls.{HasCountedCause, IsNumberDrawn, ReservesFirst, TakesFewWrites};
+ghost use Rattle.seq_store.specs.Calls.{HasCountedCause, IsNumberDrawn, IsRenumbered, ReservesFirst, TakesFewWrites};
 ghost use Rattle.seq_store.specs.Draws.{reservation_for};
 ghost use Rattle.seq_store.specs.Laws.{Raises};
 ghost use Rattle.seq_store.specs.Refusal.{draw_fault};
@@ -16,11 +16,11 @@ use nvm_model::{Nvm, NvmFault};
 const AHEAD: u64 = 63;
 
 impl<M: Nvm> SeqStore<M> {
-    /// Draws the next number. Where it is above the last reserved one, the reservation is raised first, to 63 numbers ahead but not
-    /// beyond the last number of 48 bits, in at most three writes.
+    /// Draws the next number. Where it is above the last reserved one, the reservation is raised first, to 63 numbers
+    /// ahead but not beyond the last number of 48 bits, in at most three writes.
     ///
-    /// A loss of power at any moment leaves the old reservation or the new one, and every mark as it was. Memory comes only where
-    /// the reservation is raised, as the memory answered; the store is then not sound.
+    /// A loss of power at any moment leaves the old reservation or the new one, and every mark as it was. Memory comes
+    /// only where the reservation is raised, as the memory answered; the store is then not sound.
     pub fn draw(&mut self) -> Result<Number48, DrawFault>
         requires sound { (store_state self.old).sound ≡ true }
 
@@ -29,7 +29,8 @@ impl<M: Nvm> SeqStore<M> {
             Runs (numbers_of old) (draw_raises old.reserved old.next) (draw_fault result)
             (M.state old.memory) (M.state new.memory) (M.images old.memory) (M.images new.memory) }
         ensures numbers { let old = store_state self.old in
-            OnOk result (numbers_of (store_state self.new) ≡ after_raises (draw_raises old.reserved old.next) (numbers_of old)) }
+            OnOk result (numbers_of (store_state self.new) ≡ after_raises (draw_raises old.reserved old.next)
+            (numbers_of old)) }
         ensures same_numbers { OnErr result (numbers_of (store_state self.new) ≡ numbers_of (store_state self.old)) }
         ensures reserves { ReservesFirst result (store_state self.old) (store_state self.new) M.state M.images }
         ensures few { TakesFewWrites (store_state self.old) (store_state self.new) M.state }
@@ -57,9 +58,8 @@ impl<M: Nvm> SeqStore<M> {
         ensures runs { let old = store_state self.old in let new = store_state self.new in
             Runs (numbers_of old) (draw_raises old.reserved old.next) (fault_of result)
             (M.state old.memory) (M.state new.memory) (M.images old.memory) (M.images new.memory) }
-        ensures numbers { let old = store_state self.old in
-            OnOk result (numbers_of (store_state self.new) ≡ after_raises (draw_raises old.reserved old.next) (numbers_of old)) }
-        ensures same_numbers { OnErr result (numbers_of (store_state self.new) ≡ numbers_of (store_state self.old)) }
+        ensures renumbered { let old = store_state self.old in
+            IsRenumbered result (draw_raises old.reserved old.next) old (store_state self.new) }
         ensures covered { IsOk result → number ≤ self.new.reserved }
         ensures few { (M.state self.new.memory).clock ≤ (M.state self.old.memory).clock + 3 }
         ensures next { self.new.next ≡ self.old.next }

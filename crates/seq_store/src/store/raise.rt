@@ -13,8 +13,9 @@ use nvm_model::{Nvm, NvmFault};
 impl<M: Nvm> SeqStore<M> {
     /// Raises the mark of a lane, in at most three writes.
     ///
-    /// A loss of power at any moment leaves the old mark or the new one, and all else as it was. After a fault the store is not
-    /// sound. Failed comes only where the memory counted a fault in this call, Cut only where it counted a cut.
+    /// A loss of power at any moment leaves the old mark or the new one, and all else as it was. After a fault the
+    /// store is not sound. Failed comes only where the memory counted a fault in this call, Cut only where it counted a
+    /// cut.
     pub fn raise(&mut self, lane: usize, number: Number48) -> Result<(), NvmFault>
         requires sound { (store_state self.old).sound ≡ true }
         requires in_range { lane < lanes_of (store_state self.old) }

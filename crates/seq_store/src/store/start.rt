@@ -14,22 +14,25 @@ use nvm_model::Nvm;
 use std::alloc::Global;
 
 impl<M: Nvm> SeqStore<M> {
-    /// Starts a store over a memory that was formatted for so many lanes: its marks are those of the memory, and its next number
-    /// is the last reserved one plus 1. It writes nothing.
+    /// Starts a store over a memory that was formatted for so many lanes: its marks are those of the memory, and its
+    /// next number is the last reserved one plus 1. It writes nothing.
     ///
-    /// A refusal hands the memory back. NoMemory comes before anything is read. Memory comes only as a read answered. Unformatted
-    /// comes exactly where the memory lacks a value and no read was refused.
+    /// A refusal hands the memory back. NoMemory comes before anything is read. Memory comes only as a read answered.
+    /// Unformatted comes exactly where the memory lacks a value and no read was refused.
     pub fn start(alloc: Global, lanes: usize, mut memory: M) -> Result<SeqStore<M>, StoreRefused<M>>
         requires size { length (M.state memory).octets ≡ store_size lanes }
         requires lanes_fit { lanes ≤ most_lanes }
 
         ensures lanes { IfOk result (λ store. lanes_of (store_state store) ≡ lanes) }
-        ensures numbers { IfOk result (λ store. numbers_of (store_state store) ≡ numbers_in lanes (M.state memory).octets) }
-        ensures restores { IfOk result (λ store. RestoresNumbers (numbers_of (store_state store)) (M.state memory).octets) }
+        ensures numbers { IfOk result (λ store. numbers_of (store_state store)
+            ≡ numbers_in lanes (M.state memory).octets) }
+        ensures restores { IfOk result (λ store. RestoresNumbers (numbers_of (store_state store))
+            (M.state memory).octets) }
         ensures after_reserved { IfOk result (λ store. (store_state store).next ≡ (store_state store).reserved + 1) }
         ensures sound { IfOk result (λ store. (store_state store).sound ≡ true) }
         ensures reads { IfOk result (λ store. Reads None
-            (M.state memory) (M.state (store_state store).memory) (M.images memory) (M.images (store_state store).memory)) }
+            (M.state memory) (M.state (store_state store).memory) (M.images memory)
+            (M.images (store_state store).memory)) }
 
         ensures unformatted { (place : ℕ) → (refusal_of result ≡ Some (StoreFault.Unformatted place))
             ↔ (IsUnformattedAt lanes (M.state memory).octets place × (has_read (refusal_of result) ≡ true)) }

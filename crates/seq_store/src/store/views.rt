@@ -30,7 +30,8 @@ impl<M: Nvm> SeqStore<M> {
     pub fn is_sound(&self) -> bool
         ensures sound { result ≡ (store_state self.now).sound }
         ensures powered { IsTrue result → (M.state (store_state self.now).memory).powered ≡ true }
-        ensures ready { IsTrue result → Ready (lanes_of (store_state self.now)) (M.state (store_state self.now).memory).octets }
+        ensures ready { IsTrue result → Ready (lanes_of (store_state self.now))
+            (M.state (store_state self.now).memory).octets }
         ensures restores_numbers { let store = store_state self.now in
             IsTrue result → RestoresNumbers (numbers_of store) (M.state store.memory).octets }
     {
@@ -39,7 +40,8 @@ impl<M: Nvm> SeqStore<M> {
 
     /// Makes the next number greater than this one. It changes working memory only.
     pub fn raise_next(&mut self, above: Number48)
-        ensures next { let old = store_state self.old in store_state self.new ≡ record old { next = max old.next (above + 1) } }
+        ensures next { let old = store_state self.old in store_state self.new
+            ≡ record old { next = max old.next (above + 1) } }
     {
         self.next = self.next.max(above.get() + 1);
     }

@@ -6,7 +6,8 @@ use Rattle.aes_modes.proofs.Chaining.{block_at-at, length-block_at}
 use Rattle.aes_modes.proofs.blocks.block_at.Goals as goal
 
 -- octet i of the block that is read
-read : (c : goal.After-block-2-1) (i : ℕ) → i < 16 → slice_index c.copy_from_slice.new.self i ≡ slice_index c.args.octets.now (16 * c.args.n + i)
+read : (c : goal.After-block-2-1) (i : ℕ) → i < 16 → slice_index c.copy_from_slice.new.self i
+    ≡ slice_index c.args.octets.now (16 * c.args.n + i)
 read c i lt =
     let start = 16 * c.args.n in
     ap (λ l. slice_index l i) c.copy_from_slice.ensures.after

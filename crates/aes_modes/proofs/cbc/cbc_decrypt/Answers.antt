@@ -20,18 +20,24 @@ each-init c = record {
 -- ---- the block that an iteration writes
 
 -- the octets before the block are as they were
-kept : (c : goal.After-slice_known-in-each-1) (n : ℕ) → n ≤ c.each.n → chained c.args.key.now c.args.iv.now c.put_block.new.octets n ≡ chained c.args.key.now c.args.iv.now c.each.octets n
-kept c n le = chained_same c.args.key.now c.args.iv.now c.put_block.new.octets c.each.octets n (λ i lt. c.put_block.ensures.before i (omega arith))
+kept : (c : goal.After-slice_known-in-each-1) (n : ℕ) → n ≤ c.each.n
+    → chained c.args.key.now c.args.iv.now c.put_block.new.octets n
+    ≡ chained c.args.key.now c.args.iv.now c.each.octets n
+kept c n le = chained_same c.args.key.now c.args.iv.now c.put_block.new.octets c.each.octets n
+    (λ i lt. c.put_block.ensures.before i (omega arith))
 
 -- what is written is a plain block: its sum with the block before has the cipher that was read
-written : (c : goal.After-slice_known-in-each-1) → block_at c.put_block.new.octets c.each.n ≡ xor_blocks c.decrypt_block.new.block c.each.before
+written : (c : goal.After-slice_known-in-each-1) → block_at c.put_block.new.octets c.each.n
+    ≡ xor_blocks c.decrypt_block.new.block c.each.before
 written c =
-    same_blocks (block_at c.put_block.new.octets c.each.n) c.xor_block.new.block (length-block_at c.put_block.new.octets c.each.n) c.xor_block.array_long
+    same_blocks (block_at c.put_block.new.octets c.each.n) c.xor_block.new.block
+    (length-block_at c.put_block.new.octets c.each.n) c.xor_block.array_long
     (λ i lt. block_at-at c.put_block.new.octets c.each.n i lt ∙ c.put_block.ensures.block i lt)
     ∙ c.xor_block.ensures
 
 -- the chain over what is written comes to the block that was read
-enciphered : (c : goal.After-slice_known-in-each-1) → chained c.args.key.now c.args.iv.now c.put_block.new.octets (c.each.n + 1) ≡ c.block_at-cipher.result
+enciphered : (c : goal.After-slice_known-in-each-1) → chained c.args.key.now c.args.iv.now c.put_block.new.octets
+    (c.each.n + 1) ≡ c.block_at-cipher.result
 enciphered c =
     let key = c.args.key.now in
     chained_next key c.args.iv.now c.put_block.new.octets c.each.n
@@ -40,21 +46,25 @@ enciphered c =
     ∙ c.decrypt_block.ensures.encrypts_back
 
 -- the block that was read is one of the octets that the call was given
-read : (c : goal.After-slice_known-in-each-1) (i : ℕ) → i < 16 → slice_index c.block_at-cipher.result i ≡ slice_index c.args.octets.now (16 * c.each.n + i)
+read : (c : goal.After-slice_known-in-each-1) (i : ℕ) → i < 16
+    → slice_index c.block_at-cipher.result i ≡ slice_index c.args.octets.now (16 * c.each.n + i)
 read c i lt =
     ap (λ (b : List ℕ). slice_index b i) c.block_at-cipher.ensures.block
     ∙ block_at-at c.each.octets c.each.n i lt
     ∙ c.each.invariant.rest (16 * c.each.n + i) (omega arith)
 
 -- a list with the octets of the call as its CBC has the block that is written
-one_plain : (c : goal.After-slice_known-in-each-1) (plain : List ℕ) → length plain ≡ length c.args.octets.now → AreOctets plain
-    → cbc_of c.args.key.now c.args.iv.now plain ≡ c.args.octets.now → block_at plain c.each.n ≡ block_at c.put_block.new.octets c.each.n
+one_plain : (c : goal.After-slice_known-in-each-1) (plain : List ℕ) → length plain ≡ length c.args.octets.now
+    → AreOctets plain
+    → cbc_of c.args.key.now c.args.iv.now plain ≡ c.args.octets.now
+    → block_at plain c.each.n ≡ block_at c.put_block.new.octets c.each.n
 one_plain c plain long octets e =
     let key = c.args.key.now in
     let iv = c.args.iv.now in
     let n = c.each.n in
     let before : chained key iv plain n ≡ c.each.before =
-    chained_same key iv plain c.each.octets n (λ i lt. c.each.invariant.only plain long octets e i lt) ∙ sym c.each.invariant.before in
+    chained_same key iv plain c.each.octets n (λ i lt. c.each.invariant.only plain long octets e i lt)
+    ∙ sym c.each.invariant.before in
     let next : chained key iv plain (n + 1) ≡ cipher key (xor_blocks (block_at plain n) c.each.before) =
     chained_next key iv plain n ∙ ap (λ (b : List ℕ). cipher key (xor_blocks (block_at plain n) b)) before in
     let given : chained key iv plain (n + 1) ≡ c.block_at-cipher.result =
@@ -67,7 +77,8 @@ one_plain c plain long octets e =
     ∙ sym (read c i lt)) in
     let deciphered : c.decrypt_block.new.block ≡ xor_blocks (block_at plain n) c.each.before =
     c.decrypt_block.ensures.only (xor_blocks (block_at plain n) c.each.before)
-    (IsBlock_xor_blocks (block_at plain n) c.each.before (IsBlock_block_at plain n octets) c.each.invariant.octets) (sym next ∙ given) in
+    (IsBlock_xor_blocks (block_at plain n) c.each.before (IsBlock_block_at plain n octets) c.each.invariant.octets)
+    (sym next ∙ given) in
     sym (
     written c
     ∙ ap (λ (b : List ℕ). xor_blocks b c.each.before) deciphered
@@ -89,7 +100,8 @@ each-preserved c =
       };
       before = sym (enciphered c);
       done = λ i lt. elim (cases_lt i (16 * n)) [
-        | inl earlier ↦ ap (λ (b : List ℕ). slice_index b (i % 16)) (kept c (i / 16 + 1) (omega arith)) ∙ c.each.invariant.done i earlier
+        | inl earlier ↦ ap (λ (b : List ℕ). slice_index b (i % 16)) (kept c (i / 16 + 1) (omega arith))
+            ∙ c.each.invariant.done i earlier
         | inr now ↦
             let place : 16 * n + (i - 16 * n) ≡ i = omega arith in
             subst IsDone place (
@@ -117,7 +129,8 @@ returns-clause-encrypts_back c =
     let cbc = cbc_of c.args.key.now c.args.iv.now c.each.octets in
     let long : length cbc ≡ length c.each.octets = length-cbc_of c.args.key.now c.args.iv.now c.each.octets in
     same_number_lists cbc c.args.octets.now (long ∙ c.each.auto.octets)
-    (λ i lt. cbc_of-at c.args.key.now c.args.iv.now c.each.octets i (omega arith) ∙ c.each.invariant.done i (omega arith))
+    (λ i lt. cbc_of-at c.args.key.now c.args.iv.now c.each.octets i (omega arith)
+    ∙ c.each.invariant.done i (omega arith))
 
 pub returns-clause-only : goal.returns-clause-only
 returns-clause-only c = λ plain long octets e.

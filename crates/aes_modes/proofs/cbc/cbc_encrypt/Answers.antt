@@ -19,10 +19,12 @@ each-preserved c =
     let new = c.put_block.new.octets in
     let n = c.each.n in
     let plain : c.block_at.result ≡ block_at old n =
-    c.block_at.ensures.block ∙ block_at_same c.each.octets old n (λ i lt. c.each.invariant.rest (16 * n + i) (omega arith)) in
+    c.block_at.ensures.block ∙ block_at_same c.each.octets old n
+    (λ i lt. c.each.invariant.rest (16 * n + i) (omega arith)) in
     let block : c.encrypt_block.new.block ≡ chained key iv old (n + 1) =
     c.encrypt_block.ensures
-    ∙ ap (cipher key) (c.xor_block.ensures ∙ (λ k. xor_blocks (c.each.invariant.block k) (plain k)) ∙ xor_blocks_comm (chained key iv old n) (block_at old n))
+    ∙ ap (cipher key) (c.xor_block.ensures ∙ (λ k. xor_blocks (c.each.invariant.block k) (plain k))
+    ∙ xor_blocks_comm (chained key iv old n) (block_at old n))
     ∙ sym (chained_next key iv old n) in
     let IsDone : ℕ → Type 0 = λ m. slice_index new m ≡ slice_index (chained key iv old (m / 16 + 1)) (m % 16) in
     record {
@@ -43,6 +45,7 @@ each-preserved c =
 pub returns : goal.returns
 returns c =
     let old = c.args.octets.now in
-    let long : length (cbc_of c.args.key.now c.args.iv.now old) ≡ length old = length-cbc_of c.args.key.now c.args.iv.now old in
+    let long : length (cbc_of c.args.key.now c.args.iv.now old) ≡ length old =
+    length-cbc_of c.args.key.now c.args.iv.now old in
     same_number_lists c.each.octets (cbc_of c.args.key.now c.args.iv.now old) (c.each.auto.octets ∙ sym long)
     (λ i lt. c.each.invariant.done i (omega arith) ∙ sym (cbc_of-at c.args.key.now c.args.iv.now old i (omega arith)))

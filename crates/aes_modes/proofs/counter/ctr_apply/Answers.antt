@@ -18,8 +18,10 @@ each-preserved c =
     let IsDone : ℕ → Type 0 = λ m. slice_index new m ≡ slice_index old m ⊕ stream_of key ctr0 m in
     let block : (i : ℕ) → i < 16 → 16 * n + i < length old → IsDone (16 * n + i) = λ i lt within.
     let stream : slice_index c.encrypt_block.new.block i ≡ stream_of key ctr0 (16 * n + i) =
-    ap (λ (b : List ℕ). slice_index b i) (c.encrypt_block.ensures ∙ ap (cipher key) (c.each.invariant.counter n)) ∙ sym (stream_of-at key ctr0 n i lt) in
-    c.add_stream.ensures.block i lt (omega arith) ∙ (λ k. c.each.invariant.rest (16 * n + i) (omega arith) k ⊕ stream k) in
+    ap (λ (b : List ℕ). slice_index b i) (c.encrypt_block.ensures ∙ ap (cipher key) (c.each.invariant.counter n))
+    ∙ sym (stream_of-at key ctr0 n i lt) in
+    c.add_stream.ensures.block i lt (omega arith) ∙ (λ k. c.each.invariant.rest (16 * n + i) (omega arith) k ⊕ stream
+    k) in
     record {
       counter = λ x. set-set c.each.counter 15 n x ∙ c.each.invariant.counter x;
       done = λ i lt within. elim (cases_lt i (16 * n)) [
@@ -34,9 +36,11 @@ each-preserved c =
 is_with_stream : (c : goal.After-each) → c.each.octets ≡ with_stream c.args.key.now c.args.ctr0.now c.args.octets.now
 is_with_stream c =
     let old = c.args.octets.now in
-    let long : length (with_stream c.args.key.now c.args.ctr0.now old) ≡ length old = length-with_stream c.args.key.now c.args.ctr0.now old in
+    let long : length (with_stream c.args.key.now c.args.ctr0.now old) ≡ length old =
+    length-with_stream c.args.key.now c.args.ctr0.now old in
     same_number_lists c.each.octets (with_stream c.args.key.now c.args.ctr0.now old) (c.each.auto.octets ∙ sym long)
-    (λ i lt. c.each.invariant.done i (omega arith) (omega arith) ∙ sym (with_stream-at c.args.key.now c.args.ctr0.now old i (omega arith)))
+    (λ i lt. c.each.invariant.done i (omega arith) (omega arith)
+    ∙ sym (with_stream-at c.args.key.now c.args.ctr0.now old i (omega arith)))
 
 pub returns-clause-stream : goal.returns-clause-stream
 returns-clause-stream c = is_with_stream c

@@ -8,7 +8,8 @@ use Rattle.aes_modes.proofs.rounds.mixed_column.Goals as goal
 
 row : (c : goal.After-column_at-4) (r : ℕ) → r < 4
     → octet_of (c.column_at.result ⊕ c.column_at-2.result ⊕ c.column_at-3.result ⊕ c.column_at-4.result) r
-    ≡ mixed r (sub_byte (octet_of c.args.a 0)) (sub_byte (octet_of c.args.b 1)) (sub_byte (octet_of c.args.c 2)) (sub_byte (octet_of c.args.d 3))
+    ≡ mixed r (sub_byte (octet_of c.args.a 0)) (sub_byte (octet_of c.args.b 1)) (sub_byte (octet_of c.args.c 2))
+    (sub_byte (octet_of c.args.d 3))
 row c r lt =
     mixed_octet r _ _ _ _ c.args.a c.args.b c.args.c c.args.d lt
     (c.column_at.ensures ∙ ap (slice_index MIXED0) c.octet.ensures)

@@ -11,7 +11,8 @@ returns-clause-same c =
     let k = c.args.k in
     let constant = c.from.result * 2 ^ 24 % 2 ^ 32 in
     let added = c.substituted_column.result ⊕ constant in
-    let turned = octet_of-turned (slice_index k 3) c.rotate_left-turned.result (omega arith) c.rotate_left-turned.ensures in
+    let turned =
+    octet_of-turned (slice_index k 3) c.rotate_left-turned.result (omega arith) c.rotate_left-turned.ensures in
     let constants = octet_of-constant c.args.constant c.from.result (omega arith) c.from.ensures in
     let row0 = octet_of-columns k added 0 _ (octet_of-⊕ c.substituted_column.result constant 0
     ∙ (λ i. (c.substituted_column.ensures.row0 ∙ ap sub_byte turned.0) i ⊕ constants.0 i)) in

@@ -7,20 +7,24 @@ use Rattle.aes_modes.proofs.rounds.restored_column.Goals as goal
 
 pub returns-clause-row0 : goal.returns-clause-row0
 returns-clause-row0 c =
-    ap sub_byte ((octet_of-from_be_bytes _ _ _ _ _ (omega arith) (omega arith) (omega arith) (omega arith) c.from_be_bytes.ensures).0
+    ap sub_byte ((octet_of-from_be_bytes _ _ _ _ _ (omega arith) (omega arith) (omega arith) (omega arith)
+    c.from_be_bytes.ensures).0
     ∙ c.octet_at.ensures ∙ ap (slice_index RESTORED) c.octet.ensures) ∙ restored _ (octet_of-lt c.args.a 0)
 
 pub returns-clause-row1 : goal.returns-clause-row1
 returns-clause-row1 c =
-    ap sub_byte ((octet_of-from_be_bytes _ _ _ _ _ (omega arith) (omega arith) (omega arith) (omega arith) c.from_be_bytes.ensures).1
+    ap sub_byte ((octet_of-from_be_bytes _ _ _ _ _ (omega arith) (omega arith) (omega arith) (omega arith)
+    c.from_be_bytes.ensures).1
     ∙ c.octet_at-2.ensures ∙ ap (slice_index RESTORED) c.octet-2.ensures) ∙ restored _ (octet_of-lt c.args.b 1)
 
 pub returns-clause-row2 : goal.returns-clause-row2
 returns-clause-row2 c =
-    ap sub_byte ((octet_of-from_be_bytes _ _ _ _ _ (omega arith) (omega arith) (omega arith) (omega arith) c.from_be_bytes.ensures).2
+    ap sub_byte ((octet_of-from_be_bytes _ _ _ _ _ (omega arith) (omega arith) (omega arith) (omega arith)
+    c.from_be_bytes.ensures).2
     ∙ c.octet_at-3.ensures ∙ ap (slice_index RESTORED) c.octet-3.ensures) ∙ restored _ (octet_of-lt c.args.c 2)
 
 pub returns-clause-row3 : goal.returns-clause-row3
 returns-clause-row3 c =
-    ap sub_byte ((octet_of-from_be_bytes _ _ _ _ _ (omega arith) (omega arith) (omega arith) (omega arith) c.from_be_bytes.ensures).3
+    ap sub_byte ((octet_of-from_be_bytes _ _ _ _ _ (omega arith) (omega arith) (omega arith) (omega arith)
+    c.from_be_bytes.ensures).3
     ∙ c.octet_at-4.ensures ∙ ap (slice_index RESTORED) c.octet-4.ensures) ∙ restored _ (octet_of-lt c.args.d 3)

@@ -18,13 +18,17 @@ row c r lt =
     (c.column_at-4.ensures ∙ ap (slice_index UNMIXED3) c.octet-4.ensures)
 
 pub returns-clause-row0 : goal.returns-clause-row0
-returns-clause-row0 c = row c 0 (lit< tt) ∙ row_of-0 (octet_of c.args.t 0) (octet_of c.args.t 1) (octet_of c.args.t 2) (octet_of c.args.t 3)
+returns-clause-row0 c =
+    row c 0 (lit< tt) ∙ row_of-0 (octet_of c.args.t 0) (octet_of c.args.t 1) (octet_of c.args.t 2) (octet_of c.args.t 3)
 
 pub returns-clause-row1 : goal.returns-clause-row1
-returns-clause-row1 c = row c 1 (lit< tt) ∙ row_of-1 (octet_of c.args.t 0) (octet_of c.args.t 1) (octet_of c.args.t 2) (octet_of c.args.t 3)
+returns-clause-row1 c =
+    row c 1 (lit< tt) ∙ row_of-1 (octet_of c.args.t 0) (octet_of c.args.t 1) (octet_of c.args.t 2) (octet_of c.args.t 3)
 
 pub returns-clause-row2 : goal.returns-clause-row2
-returns-clause-row2 c = row c 2 (lit< tt) ∙ row_of-2 (octet_of c.args.t 0) (octet_of c.args.t 1) (octet_of c.args.t 2) (octet_of c.args.t 3)
+returns-clause-row2 c =
+    row c 2 (lit< tt) ∙ row_of-2 (octet_of c.args.t 0) (octet_of c.args.t 1) (octet_of c.args.t 2) (octet_of c.args.t 3)
 
 pub returns-clause-row3 : goal.returns-clause-row3
-returns-clause-row3 c = row c 3 (lit< tt) ∙ row_of-3 (octet_of c.args.t 0) (octet_of c.args.t 1) (octet_of c.args.t 2) (octet_of c.args.t 3)
+returns-clause-row3 c =
+    row c 3 (lit< tt) ∙ row_of-3 (octet_of c.args.t 0) (octet_of c.args.t 1) (octet_of c.args.t 2) (octet_of c.args.t 3)

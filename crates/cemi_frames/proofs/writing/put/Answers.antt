@@ -3,4 +3,5 @@ use Rattle.std.proofs.lemmas.Slice.{drop-put_mid}
 use Rattle.cemi_frames.proofs.writing.put.Goals as goal
 
 pub returns-clause-rest : goal.returns-clause-rest
-returns-clause-rest c = drop-put_mid c.args.at (c.args.at + length c.args.octets.now - c.args.at) c.args.out.now c.copy_from_slice.new.self (c.args.at + length c.args.octets.now) (omega arith) (omega arith) (omega arith)
+returns-clause-rest c = drop-put_mid c.args.at (c.args.at + length c.args.octets.now - c.args.at) c.args.out.now
+    c.copy_from_slice.new.self (c.args.at + length c.args.octets.now) (omega arith) (omega arith) (omega arith)

@@ -7,5 +7,6 @@ use Rattle.install_run.proofs.turn.turn_air.Goals as goal
 
 pub returns-in-Inject-clause-turned : goal.returns-in-Inject-clause-turned
 returns-in-Inject-clause-turned c = λ (nodes : List NodeAt).
-    subst (λ (e : Event). IsTurnedOnAir (turn_of e (record { nodes = nodes; air = c.args.air.now.items })) nodes c.inject.result c.inject.new.air.items)
+    subst (λ (e : Event). IsTurnedOnAir (turn_of e (record { nodes = nodes; air = c.args.air.now.items })) nodes
+    c.inject.result c.inject.new.air.items)
     (sym c.in-Inject.is) (c.inject.ensures.turned nodes)

@@ -10,23 +10,39 @@ judge_opened-requires-clause-two c =
 
 pub judge_opened-requires-clause-six : goal.judge_opened-requires-clause-six
 judge_opened-requires-clause-six c =
-    λ asks. omega (arith, ap length c.bytes.ensures.octets, c.in-Ok.ensures.length, (faultless_sync _ _ c.requires.faultless).0 asks)
+    λ asks. omega (
+      arith,
+      ap length c.bytes.ensures.octets,
+      c.in-Ok.ensures.length,
+      (faultless_sync _ _ c.requires.faultless).0 asks,
+    )
 
 pub judge_opened-requires-clause-twelve : goal.judge_opened-requires-clause-twelve
 judge_opened-requires-clause-twelve c =
-    λ not_data not_ask. omega (arith, ap length c.bytes.ensures.octets, c.in-Ok.ensures.length, (faultless_sync _ _ c.requires.faultless).1 not_data not_ask)
+    λ not_data not_ask. omega (
+      arith,
+      ap length c.bytes.ensures.octets,
+      c.in-Ok.ensures.length,
+      (faultless_sync _ _ c.requires.faultless).1 not_data not_ask,
+    )
 
 pub returns-in-Ok-clause-verdict : goal.returns-in-Ok-clause-verdict
 returns-in-Ok-clause-verdict c =
-    let said = opened_as _ _ _ (telegram c.args.frame.now) _ _ _ _ _ c.requires.key c.requires.parts (c.in-Ok.ensures.answer ∙ ap Some (sym c.bytes.ensures.octets)) in
-    opened_verdict c.args.tables.now c.args.kept c.args.entry.now.number c.args.entry.now.channel (telegram c.args.frame.now) c.bytes.result.now
-    c.judge_opened.result.verdict said (λ failed is. (c.judge_opened.ensures.refused failed is).0) (λ is. (c.judge_opened.ensures.passed is).0)
+    let said = opened_as _ _ _ (telegram c.args.frame.now) _ _ _ _ _ c.requires.key c.requires.parts
+    (c.in-Ok.ensures.answer ∙ ap Some (sym c.bytes.ensures.octets)) in
+    opened_verdict c.args.tables.now c.args.kept c.args.entry.now.number c.args.entry.now.channel
+    (telegram c.args.frame.now) c.bytes.result.now
+    c.judge_opened.result.verdict said (λ failed is. (c.judge_opened.ensures.refused failed is).0)
+    (λ is. (c.judge_opened.ensures.passed is).0)
 
 pub returns-in-Ok-clause-keeps : goal.returns-in-Ok-clause-keeps
 returns-in-Ok-clause-keeps c =
-    let said = opened_as _ _ _ (telegram c.args.frame.now) _ _ _ _ _ c.requires.key c.requires.parts (c.in-Ok.ensures.answer ∙ ap Some (sym c.bytes.ensures.octets)) in
-    opened_kept c.args.tables.now c.args.kept c.args.entry.now.number c.args.entry.now.channel (telegram c.args.frame.now) c.bytes.result.now
-    c.judge_opened.result.keeps said (λ failed is. (c.judge_opened.ensures.refused failed is).1) (λ is. (c.judge_opened.ensures.passed is).1)
+    let said = opened_as _ _ _ (telegram c.args.frame.now) _ _ _ _ _ c.requires.key c.requires.parts
+    (c.in-Ok.ensures.answer ∙ ap Some (sym c.bytes.ensures.octets)) in
+    opened_kept c.args.tables.now c.args.kept c.args.entry.now.number c.args.entry.now.channel
+    (telegram c.args.frame.now) c.bytes.result.now
+    c.judge_opened.result.keeps said (λ failed is. (c.judge_opened.ensures.refused failed is).1)
+    (λ is. (c.judge_opened.ensures.passed is).1)
 
 pub returns-in-Ok-clause-two : goal.returns-in-Ok-clause-two
 returns-in-Ok-clause-two c = λ good. omega (arith, c.in-Ok.ensures.length, faultless_length _ _ c.requires.faultless)

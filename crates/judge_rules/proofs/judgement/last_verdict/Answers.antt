@@ -12,9 +12,11 @@ pub returns-then-service-eq-DATA : goal.returns-then-service-eq-DATA
 returns-then-service-eq-DATA c =
     let service : ℕ = sync_service (telegram c.args.frame.now) in
     let is_data : (service == 0) ≡ true =
-    eq-eqb service 0 (sym (c.service-service.ensures ∙ ap (λ (f : ℕ). f % 8) c.requires.parts.field_is) ∙ c.if-service-eq-DATA.true) in
+    eq-eqb service 0 (sym (c.service-service.ensures ∙ ap (λ (f : ℕ). f % 8) c.requires.parts.field_is)
+    ∙ c.if-service-eq-DATA.true) in
     let other = if service == 2 then verdict.SyncAsk c.args.entry.now.number c.args.apdu.now
     else verdict.SyncAnswer c.args.entry.now.number (sync_values c.args.apdu.now).1 in
     c.data_verdict.ensures ∙ sym (ap (λ (b : Bool). verdict_or
     (if b then verdict.Accepted c.args.entry.now.number (service_in c.args.apdu.now) else other)
-    (first_failing (if b then data_checks c.args.tables.now c.args.kept c.args.entry.now.number c.args.entry.now.channel (telegram c.args.frame.now) c.args.apdu.now else []))) is_data)
+    (first_failing (if b then data_checks c.args.tables.now c.args.kept c.args.entry.now.number c.args.entry.now.channel
+    (telegram c.args.frame.now) c.args.apdu.now else []))) is_data)

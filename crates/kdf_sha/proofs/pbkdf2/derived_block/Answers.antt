@@ -8,14 +8,16 @@ use Rattle.kdf_sha.proofs.pbkdf2.derived_block.Goals as goal
 pub rounds-init : goal.rounds-init
 rounds-init c = λ password is.
     first_round password _ _ c.args.rounds c.requires.rounds
-    (c.code-code.ensures.code password is ∙ ap (λ (number : List ℕ). hmac_of password (c.args.salt.now ++ number)) c.to_be_bytes.ensures)
+    (c.code-code.ensures.code password is ∙ ap (λ (number : List ℕ). hmac_of password (c.args.salt.now ++ number))
+    c.to_be_bytes.ensures)
 
 pub rounds-preserved : goal.rounds-preserved
 rounds-preserved c = λ password is.
     let next : c.code-code-in-rounds.result ≡ hmac_of password c.rounds.code =
     c.code-code-in-rounds.ensures.code password is ∙ ap (hmac_of password) (append-nil _) in
     rw c.xored-sum.ensures.xored
-    (one_round password c.rounds.code c.rounds.sum c.args.rounds c.rounds._round _ c.rounds-test.true next ∙ c.rounds.invariant password is)
+    (one_round password c.rounds.code c.rounds.sum c.args.rounds c.rounds._round _ c.rounds-test.true next
+    ∙ c.rounds.invariant password is)
 
 pub returns : goal.returns
 unfolding block_of

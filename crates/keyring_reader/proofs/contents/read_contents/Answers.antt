@@ -11,7 +11,8 @@ unfolding contents_of
 tags-init c = (
   record { rows = []; listings = [] },
   c.new-gathered.ensures,
-  ap (λ opened. contents_from c.args.under.now (record { rows = []; listings = [] }) (elements_within opened c.args.tags.now)) c.new-opened.ensures
+  ap (λ opened. contents_from c.args.under.now (record { rows = []; listings = [] })
+      (elements_within opened c.args.tags.now)) c.new-opened.ensures
       ∙ ap (contents_from c.args.under.now (record { rows = []; listings = [] })) (all_within [] c.args.tags.now),
 )
 
@@ -19,7 +20,8 @@ pub returns-in_err-take_element-in-Start-clause-fault : goal.returns-in_err-take
 returns-in_err-take_element-in-Start-clause-fault c =
     let before = c.tags.invariant in
     let refused : IsFault c.in_err-take_element-in-Start.field-0.0 (contents_of c.args.under.now c.args.tags.now) =
-    start_refused c.args.under.now before.0 c.tags.opened c.args.tags.now c.tags.tag-index c.tag-item.result c.in-Start.name c.in-Start.attributes c.in-Start.place
+    start_refused c.args.under.now before.0 c.tags.opened c.args.tags.now c.tags.tag-index c.tag-item.result
+    c.in-Start.name c.in-Start.attributes c.in-Start.place
     c.within-kind.result c.in_err-take_element-in-Start.field-0.0 (contents_of c.args.under.now c.args.tags.now)
     c.tags-test.true c.tag-item.is c.in-Start.is
     (c.within-kind.ensures ∙ ap (λ outer. kind_in outer c.as_str.result.now c.in-Start.attributes) c.innermost.ensures

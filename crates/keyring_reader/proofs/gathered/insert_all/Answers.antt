@@ -10,5 +10,7 @@ devices-preserved c =
     let first : IndAddr = record { 0 = 0 } in
     let devices : List IndAddr = c.args.devices.now in
     c.in_ok-insert.ensures.keys
-    ∙ ap (λ (keys : List IndAddr). insert_key by_device keys (get_or devices c.devices.device-index first)) c.devices.invariant
-    ∙ sym (fold_more (insert_key by_device) c.args.set.now.keys devices c.devices.device-index first c.devices-test.true)
+    ∙ ap (λ (keys : List IndAddr). insert_key by_device keys (get_or devices c.devices.device-index first))
+    c.devices.invariant
+    ∙ sym (fold_more (insert_key by_device) c.args.set.now.keys devices c.devices.device-index first
+    c.devices-test.true)

@@ -9,11 +9,16 @@ use Rattle.keyring_reader.proofs.gathered.insert_listing.Goals as goal
 
 pub returns : goal.returns
 returns c = λ listings are.
-    let found : c.match-remove.set.keys ≡ unwrap_or (option_map keys (tree.get by_group c.args.senders.now c.args.listing.now.group)) [] =
+    let found : c.match-remove.set.keys ≡ unwrap_or (option_map keys
+    (tree.get by_group c.args.senders.now c.args.listing.now.group)) [] =
     elim c.match-remove.branch [
-      | in-Some w ↦ ap keys w.set-is ∙ ap (λ o. unwrap_or (option_map keys o) []) (sym w.in-Some.is ∙ c.remove.ensures.value)
-      | in-None w ↦ ap keys w.set-is ∙ w.new-set.ensures.empty ∙ ap (λ o. unwrap_or (option_map keys o) []) (sym w.in-None.is ∙ c.remove.ensures.value)
+      | in-Some w ↦ ap keys w.set-is ∙ ap (λ o. unwrap_or (option_map keys o) [])
+          (sym w.in-Some.is ∙ c.remove.ensures.value)
+      | in-None w ↦ ap keys w.set-is ∙ w.new-set.ensures.empty
+          ∙ ap (λ o. unwrap_or (option_map keys o) []) (sym w.in-None.is ∙ c.remove.ensures.value)
     ] in
-    more_listed c.args.senders.now c.remove.new.self c.insert.new.self listings c.args.listing.now c.match-remove.set c.insert_all.new.set are
-    found (c.in_ok-insert_all.ensures ∙ ap (fold (insert_key by_device) c.match-remove.set.keys) c.as_slice.ensures) c.remove.ensures.updates.0
+    more_listed c.args.senders.now c.remove.new.self c.insert.new.self listings c.args.listing.now c.match-remove.set
+    c.insert_all.new.set are
+    found (c.in_ok-insert_all.ensures ∙ ap (fold (insert_key by_device) c.match-remove.set.keys) c.as_slice.ensures)
+    c.remove.ensures.updates.0
     c.in_ok-insert.ensures.updates.0

@@ -14,14 +14,16 @@ pub returns-in_err-under-clause-fault : goal.returns-in_err-under-clause-fault
 returns-in_err-under-clause-fault c =
     let stamps : Stamps = record { created = c.in_ok-created.created.now; signature = c.in_ok-created.signature.now } in
     let refused : IsFault c.in_err-under.field-0.0 (keyring_under c.args.key c.args.tags.now) =
-    no_wrapping c.args.key c.args.tags.now stamps c.in_err-under.field-0.0 c.in_ok-created.ensures c.in_err-under.ensures.fault in
+    no_wrapping c.args.key c.args.tags.now stamps c.in_err-under.field-0.0 c.in_ok-created.ensures
+    c.in_err-under.ensures.fault in
     search (rules, refused)
 
 pub returns-in_err-gathered-clause-fault : goal.returns-in_err-gathered-clause-fault
 returns-in_err-gathered-clause-fault c =
     let stamps : Stamps = record { created = c.in_ok-created.created.now; signature = c.in_ok-created.signature.now } in
     let refused : IsFault c.in_err-gathered.field-0.0 (keyring_under c.args.key c.args.tags.now) =
-    no_contents c.args.key c.args.tags.now stamps c.in_ok-under.under c.in_err-gathered.field-0.0 c.in_ok-created.ensures c.in_ok-under.ensures.wrapping
+    no_contents c.args.key c.args.tags.now stamps c.in_ok-under.under c.in_err-gathered.field-0.0
+    c.in_ok-created.ensures c.in_ok-under.ensures.wrapping
     c.in_err-gathered.ensures.fault in
     search (rules, refused)
 
@@ -29,10 +31,12 @@ pub returns-clause-rows : goal.returns-clause-rows
 returns-clause-rows c =
     let stamps : Stamps = record { created = c.in_ok-created.created.now; signature = c.in_ok-created.signature.now } in
     let contents = c.in_ok-gathered.ensures.contents in
-    all_rows c.args.key c.args.tags.now stamps c.in_ok-under.under contents.0 c.in_ok-rows.rows.items c.in_ok-created.ensures c.in_ok-under.ensures.wrapping
+    all_rows c.args.key c.args.tags.now stamps c.in_ok-under.under contents.0 c.in_ok-rows.rows.items
+    c.in_ok-created.ensures c.in_ok-under.ensures.wrapping
     contents.1 (c.in_ok-rows.ensures contents.0 contents.2)
 
 pub returns-clause-once : goal.returns-clause-once
 returns-clause-once c =
     let contents = c.in_ok-gathered.ensures.contents in
-    rows_once c.in_ok-under.under c.args.tags.now contents.0 c.in_ok-rows.rows.items contents.1 (c.in_ok-rows.ensures contents.0 contents.2)
+    rows_once c.in_ok-under.under c.args.tags.now contents.0 c.in_ok-rows.rows.items contents.1
+    (c.in_ok-rows.ensures contents.0 contents.2)

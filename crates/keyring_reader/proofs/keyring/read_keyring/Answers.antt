@@ -29,4 +29,5 @@ returns-clause-fault c =
 
 pub returns-clause-memory : goal.returns-clause-memory
 returns-clause-memory c =
-    none_wrapped c.password_key.result c.deref.result.now tag.NoMemory c.keyring_under.result c.keyring_under.ensures.fault
+    none_wrapped c.password_key.result c.deref.result.now tag.NoMemory c.keyring_under.result
+    c.keyring_under.ensures.fault

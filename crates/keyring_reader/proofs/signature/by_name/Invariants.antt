@@ -7,4 +7,5 @@ use Rattle.keyring_reader.proofs.signature.by_name.Given as goal
 -- those so far, with those that are left put into their places, are all
 abbrev pub invariant-attributes : goal.invariant-attributes
 invariant-attributes l =
-    fold placed (map deref_texts l.ordered.entries) (filter is_signed (drop l.index l.attributes)) ≡ by_name (filter is_signed l.attributes)
+    fold placed (map deref_texts l.ordered.entries) (filter is_signed (drop l.index l.attributes))
+    ≡ by_name (filter is_signed l.attributes)

@@ -7,4 +7,5 @@ use Rattle.keyring_reader.proofs.signature.sign_attributes.Given as goal
 -- these were signed, and the others are left
 abbrev pub invariant-attributes : goal.invariant-attributes
 invariant-attributes l = (m : List ℕ) → Holds256 l.initial.hasher m
-    → (done : List (List ℕ × List ℕ)) × (done ++ map deref_texts l.name-iterator ≡ map deref_texts l.attributes.entries) × Holds256 l.hasher (m ++ flat_map signed_attribute done)
+    → (done : List (List ℕ × List ℕ)) × (done ++ map deref_texts l.name-iterator ≡ map deref_texts l.attributes.entries)
+    × Holds256 l.hasher (m ++ flat_map signed_attribute done)

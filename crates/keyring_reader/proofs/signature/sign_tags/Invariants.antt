@@ -5,4 +5,5 @@ use Rattle.keyring_reader.proofs.signature.sign_tags.Given as goal
 
 -- the tags so far were signed
 abbrev pub invariant-tags : goal.invariant-tags
-invariant-tags l = (m : List ℕ) → Holds256 l.initial.hasher m → Holds256 l.hasher (m ++ flat_map signed_tag (take l.tag-index l.tags))
+invariant-tags l =
+    (m : List ℕ) → Holds256 l.initial.hasher m → Holds256 l.hasher (m ++ flat_map signed_tag (take l.tag-index l.tags))

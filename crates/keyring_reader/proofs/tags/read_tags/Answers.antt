@@ -11,4 +11,5 @@ returns-in-Ok-Finish-clause-tags c =
 pub returns-in-Err-clause-fault : goal.returns-in-Err-clause-fault
 returns-in-Err-clause-fault c =
     subst (λ why. IsFault why (tags_of c.args.bytes.now)) (sym c.tag_fault.ensures.fault)
-    (refused c.args.bytes.now c.tags.tags.items c.tags.reader c.next.new.self c.in-Err.fault c.tags.invariant c.in-Err.ensures.tag)
+    (refused c.args.bytes.now c.tags.tags.items c.tags.reader c.next.new.self c.in-Err.fault c.tags.invariant
+    c.in-Err.ensures.tag)

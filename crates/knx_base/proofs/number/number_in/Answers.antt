@@ -9,4 +9,6 @@ returns-clause-value c = omega (arith, c.from_be_bytes.ensures)
 
 pub returns-clause-back : goal.returns-clause-back
 returns-clause-back c =
-    ap octets_of (returns-clause-value c) ∙ octets_of-number_at c.args.octets.now c.requires.six (omega (arith, c.type_inv.octets 0)) (omega (arith, c.type_inv.octets 1)) (omega (arith, c.type_inv.octets 2)) (omega (arith, c.type_inv.octets 3)) (omega (arith, c.type_inv.octets 4)) (omega (arith, c.type_inv.octets 5))
+    ap octets_of (returns-clause-value c) ∙ octets_of-number_at c.args.octets.now c.requires.six
+    (omega (arith, c.type_inv.octets 0)) (omega (arith, c.type_inv.octets 1)) (omega (arith, c.type_inv.octets 2))
+    (omega (arith, c.type_inv.octets 3)) (omega (arith, c.type_inv.octets 4)) (omega (arith, c.type_inv.octets 5))

@@ -10,10 +10,12 @@ returns-then-has_confidentiality c =
     let octets = c.args.octets.now in
     c.ctr_apply.ensures.stream
     ∙ ap (λ (counter : List ℕ). with_stream key counter octets) c.first_counter.ensures
-    ∙ ap (λ (b : Bool). cond b (with_stream key (counter_0 c.args.head.now) octets) octets) (c.if-has_confidentiality.ensures)
+    ∙ ap (λ (b : Bool). cond b (with_stream key (counter_0 c.args.head.now) octets) octets)
+    (c.if-has_confidentiality.ensures)
 
 pub returns-else-has_confidentiality : goal.returns-else-has_confidentiality
 unfolding ciphered
 returns-else-has_confidentiality c =
     let octets = c.args.octets.now in
-    ap (λ (b : Bool). cond b (with_stream c.args.key.now (counter_0 c.args.head.now) octets) octets) (c.if-has_confidentiality.ensures)
+    ap (λ (b : Bool). cond b (with_stream c.args.key.now (counter_0 c.args.head.now) octets) octets)
+    (c.if-has_confidentiality.ensures)

@@ -8,4 +8,5 @@ unfolding line_of
 returns c =
     let body = c.args.body.now in
     let n = length body - 4 in
-    c.cipher.ensures ∙ ap (ciphered c.args.key.now c.args.head.now) (c.join.ensures ∙ (λ i. take_rest body n i ++ take n body))
+    c.cipher.ensures ∙ ap (ciphered c.args.key.now c.args.head.now)
+    (c.join.ensures ∙ (λ i. take_rest body n i ++ take n body))

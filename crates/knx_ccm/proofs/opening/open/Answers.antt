@@ -10,17 +10,20 @@ returns-then-eq-clause-opened c =
     let head = c.args.head.now in
     let line = c.decrypt.new.line in
     let agree : c.front-said.result ≡ c.code-computed.result = search rules in
-    let apdu = copied c.args.body.now line _ _ (length-line key head c.args.body.now line c.decrypt.ensures) c.copy_from_slice.ensures.after in
+    let apdu = copied c.args.body.now line _ _ (length-line key head c.args.body.now line c.decrypt.ensures)
+    c.copy_from_slice.ensures.after in
     let same : take 4 line ≡ code_of key head (drop 4 line) =
     sym c.front-said.ensures ∙ agree ∙ c.code-computed.ensures ∙ ap (code_of key head) (take_rest line 4) in
-    subst (Opens key head c.args.body.now) (sym apdu) (opens-back key head c.args.body.now line c.requires.code c.decrypt.ensures same)
+    subst (Opens key head c.args.body.now) (sym apdu) (opens-back key head c.args.body.now line c.requires.code
+    c.decrypt.ensures same)
 
 pub returns-then-eq-clause-only : goal.returns-then-eq-clause-only
 returns-then-eq-clause-only c = λ apdu opens.
     let key = c.args.key.now in
     let head = c.args.head.now in
     let line = c.decrypt.new.line in
-    copied c.args.body.now line _ _ (length-line key head c.args.body.now line c.decrypt.ensures) c.copy_from_slice.ensures.after
+    copied c.args.body.now line _ _ (length-line key head c.args.body.now line c.decrypt.ensures)
+    c.copy_from_slice.ensures.after
     ∙ (opens-found key head c.args.body.now line apdu c.decrypt.ensures opens).1
 
 pub returns-else-eq-clause-only : goal.returns-else-eq-clause-only
@@ -29,7 +32,8 @@ returns-else-eq-clause-only c = λ apdu opens.
     let line = c.decrypt.new.line in
     let found = opens-found key c.args.head.now c.args.body.now line apdu c.decrypt.ensures opens in
     let same : c.front-said.result ≡ c.code-computed.result =
-    c.front-said.ensures ∙ found.0 ∙ ap (code_of key c.args.head.now) (sym found.1 ∙ sym (take_rest line 4)) ∙ sym c.code-computed.ensures in
+    c.front-said.ensures ∙ found.0 ∙ ap (code_of key c.args.head.now) (sym found.1 ∙ sym (take_rest line 4))
+    ∙ sym c.code-computed.ensures in
     let differ : c.front-said.result ≢ c.code-computed.result = search rules in
     differ same
 
@@ -48,8 +52,10 @@ returns-else-eq-clause-codes c =
 pub returns-then-eq-clause-answer : goal.returns-then-eq-clause-answer
 returns-then-eq-clause-answer c =
     let line = c.decrypt.new.line in
-    let apdu = copied c.args.body.now line _ _ (length-line c.args.key.now c.args.head.now c.args.body.now line c.decrypt.ensures) c.copy_from_slice.ensures.after in
-    opened-some c.args.key.now c.args.head.now c.args.body.now _ (apdu ∙ ap (drop 4) c.decrypt.ensures) (returns-then-eq-clause-opened c)
+    let apdu = copied c.args.body.now line _ _ (length-line c.args.key.now c.args.head.now c.args.body.now line
+    c.decrypt.ensures) c.copy_from_slice.ensures.after in
+    opened-some c.args.key.now c.args.head.now c.args.body.now _ (apdu ∙ ap (drop 4) c.decrypt.ensures)
+    (returns-then-eq-clause-opened c)
 
 pub returns-else-eq-clause-answer : goal.returns-else-eq-clause-answer
 returns-else-eq-clause-answer c =

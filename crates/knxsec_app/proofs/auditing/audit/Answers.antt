@@ -9,4 +9,5 @@ use Rattle.knxsec_app.proofs.auditing.audit.Goals as goal
 pub returns-in-Err-clause-answer : goal.returns-in-Err-clause-answer
 returns-in-Err-clause-answer g c told is =
     stops_command (installation (rows_of c.args.under) (octets_in told c.args.tables.now))
-    (λ rows. frames_answer rows [] (records_of (octets_in told c.args.frames.now))) _ _ _ (c.in-Err.ensures.rows told is)
+    (λ rows. frames_answer rows [] (records_of (octets_in told c.args.frames.now))) _ _ _
+    (c.in-Err.ensures.rows told is)

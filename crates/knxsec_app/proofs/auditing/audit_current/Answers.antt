@@ -13,68 +13,86 @@ records-preserved g c =
     let start : Seen = g.F.Files.seen c.args.files.now in
     let now : Seen = g.F.Files.seen c.records.files in
     let later : Seen = g.F.Files.seen c.next.new.files in
-    let given = some_given now later _ _ c.next.result c.in-Ok-Some.field-0 c.in-Ok-Some.record c.in-Ok-Some.is c.in-Ok-Some.field-0-is c.next.follows.holds-at-none in
+    let given = some_given now later _ _ c.next.result c.in-Ok-Some.field-0 c.in-Ok-Some.record c.in-Ok-Some.is
+    c.in-Ok-Some.field-0-is c.next.follows.holds-at-none in
     record {
       no_fault = given.0.still_none;
       at = given.0.gives.at;
-      goes = goes_then start now later _ _ _ 0 0 before.goes (takes_less now later _ _ _ 1 0 (omega (arith)) given.0.gives.goes);
+      goes = goes_then start now later _ _ _ 0 0 before.goes (takes_less now later _ _ _ 1 0 (omega (arith))
+          given.0.gives.goes);
       counted = c.in-Ok-frame.ensures.counted ∙ ap (λ n. n + 1) before.counted ∙ sym given.0.gives.counted;
       few = given.0.gives.few;
-      so_far = goes_on start now later _ _ _ _ _ _ _ _ _ _ _ _ c.in-Ok-Some.record.time c.in-Ok-frame.line before.so_far before.goes (first_left now later _ _ _ _ given.0)
-          (λ past knows. (c.in-Ok-frame.ensures.line past knows, c.in-Ok-frame.ensures.knows past knows)) c.frame.ensures.rows c.in-Ok-frame.ensures.opened given.1 c.in-Ok-pass_line.ensures.text;
+      so_far = goes_on start now later _ _ _ _ _ _ _ _ _ _ _ _ c.in-Ok-Some.record.time c.in-Ok-frame.line before.so_far
+          before.goes (first_left now later _ _ _ _ given.0)
+          (λ past knows. (c.in-Ok-frame.ensures.line past knows, c.in-Ok-frame.ensures.knows past knows))
+          c.frame.ensures.rows c.in-Ok-frame.ensures.opened given.1 c.in-Ok-pass_line.ensures.text;
       kept = search rules;
     }
 
 pub returns-in_default-frame-clause-answer : goal.returns-in_default-frame-clause-answer
 returns-in_default-frame-clause-answer g c octets has =
-    wants_memory (g.F.Files.seen c.args.files.now) (g.F.Files.seen c.records.files) _ _ _ _ _ _ _ _ c.records.invariant.so_far c.stop_without_memory.ensures.answer octets has
+    wants_memory (g.F.Files.seen c.args.files.now) (g.F.Files.seen c.records.files) _ _ _ _ _ _ _ _
+    c.records.invariant.so_far c.stop_without_memory.ensures.answer octets has
 
 pub returns-in_default-pass_line-clause-answer : goal.returns-in_default-pass_line-clause-answer
 returns-in_default-pass_line-clause-answer g c =
     let before = c.records.invariant in
     let now : Seen = g.F.Files.seen c.records.files in
     let later : Seen = g.F.Files.seen c.next.new.files in
-    let given = some_given now later _ _ c.next.result c.in-Ok-Some.field-0 c.in-Ok-Some.record c.in-Ok-Some.is c.in-Ok-Some.field-0-is c.next.follows.holds-at-none in
-    stops_at_line (g.F.Files.seen c.args.files.now) now later _ _ _ _ c.next.follows.lender-at-none.reader _ _ _ _ _ _ c.in-Ok-Some.record.time c.in-Ok-frame.line before.so_far before.goes (first_left now later _ _ _ _ given.0)
-    (λ past knows. (c.in-Ok-frame.ensures.line past knows, c.in-Ok-frame.ensures.knows past knows)) c.in-Ok-frame.ensures.opened given.1 c.in_default-pass_line.ensures.text
+    let given = some_given now later _ _ c.next.result c.in-Ok-Some.field-0 c.in-Ok-Some.record c.in-Ok-Some.is
+    c.in-Ok-Some.field-0-is c.next.follows.holds-at-none in
+    stops_at_line (g.F.Files.seen c.args.files.now) now later _ _ _ _ c.next.follows.lender-at-none.reader _ _ _ _ _ _
+    c.in-Ok-Some.record.time c.in-Ok-frame.line before.so_far before.goes (first_left now later _ _ _ _ given.0)
+    (λ past knows. (c.in-Ok-frame.ensures.line past knows, c.in-Ok-frame.ensures.knows past knows))
+    c.in-Ok-frame.ensures.opened given.1 c.in_default-pass_line.ensures.text
 
 pub returns-in-Ok-None-clause-answer : goal.returns-in-Ok-None-clause-answer
 returns-in-Ok-None-clause-answer g c =
     let before = c.records.invariant in
     let now : Seen = g.F.Files.seen c.records.files in
-    let given = none_given now (g.F.Files.seen c.next.new.files) _ _ c.next.result c.in-Ok-None.field-0 c.in-Ok-None.is c.in-Ok-None.field-0-is c.next.follows.holds-at-none in
-    finishes (g.F.Files.seen c.args.files.now) now _ _ _ _ _ _ _ _ before.so_far before.goes (λ all has. (given.ends.none_left all has).0) c.finish.ensures.answer
+    let given = none_given now (g.F.Files.seen c.next.new.files) _ _ c.next.result c.in-Ok-None.field-0 c.in-Ok-None.is
+    c.in-Ok-None.field-0-is c.next.follows.holds-at-none in
+    finishes (g.F.Files.seen c.args.files.now) now _ _ _ _ _ _ _ _ before.so_far before.goes
+    (λ all has. (given.ends.none_left all has).0) c.finish.ensures.answer
 
 pub returns-in-Ok-None-clause-whole : goal.returns-in-Ok-None-clause-whole
 returns-in-Ok-None-clause-whole g c whole =
     let before = c.records.invariant in
     let now : Seen = g.F.Files.seen c.records.files in
-    let given = none_given now (g.F.Files.seen c.next.new.files) _ _ c.next.result c.in-Ok-None.field-0 c.in-Ok-None.is c.in-Ok-None.field-0-is c.next.follows.holds-at-none in
-    reads_to_end (g.F.Files.seen c.args.files.now) now (g.F.Files.seen c.next.new.files) _ _ c.requires.start before.goes given.ends.goes given.ends.whole
+    let given = none_given now (g.F.Files.seen c.next.new.files) _ _ c.next.result c.in-Ok-None.field-0 c.in-Ok-None.is
+    c.in-Ok-None.field-0-is c.next.follows.holds-at-none in
+    reads_to_end (g.F.Files.seen c.args.files.now) now (g.F.Files.seen c.next.new.files) _ _ c.requires.start
+    before.goes given.ends.goes given.ends.whole
 
 pub returns-in-Err-clause-answer : goal.returns-in-Err-clause-answer
 returns-in-Err-clause-answer g c =
     let before = c.records.invariant in
     let now : Seen = g.F.Files.seen c.records.files in
-    let refused = fault_given now (g.F.Files.seen c.next.new.files) _ _ c.next.result c.in-Err.fault c.in-Err.is before.no_fault c.next.follows.holds-at-none in
-    refuses (g.F.Files.seen c.args.files.now) now (g.F.Files.seen c.next.new.files) _ _ _ _ _ _ _ _ c.in-Err.fault before.so_far before.goes refused c.finish_frames.ensures.answer
+    let refused = fault_given now (g.F.Files.seen c.next.new.files) _ _ c.next.result c.in-Err.fault c.in-Err.is
+    before.no_fault c.next.follows.holds-at-none in
+    refuses (g.F.Files.seen c.args.files.now) now (g.F.Files.seen c.next.new.files) _ _ _ _ _ _ _ _ c.in-Err.fault
+    before.so_far before.goes refused c.finish_frames.ensures.answer
 
 pub returns-in_default-frame-clause-told : goal.returns-in_default-frame-clause-told
 returns-in_default-frame-clause-told g c =
     let before = c.records.invariant in
-    gives_told (g.F.Files.seen c.records.files) (g.F.Files.seen c.next.new.files) _ _ c.next.result before.no_fault c.next.follows.holds-at-none ∙ before.goes.told
+    gives_told (g.F.Files.seen c.records.files) (g.F.Files.seen c.next.new.files) _ _ c.next.result before.no_fault
+    c.next.follows.holds-at-none ∙ before.goes.told
 
 pub returns-in_default-pass_line-clause-told : goal.returns-in_default-pass_line-clause-told
 returns-in_default-pass_line-clause-told g c =
     let before = c.records.invariant in
-    gives_told (g.F.Files.seen c.records.files) (g.F.Files.seen c.next.new.files) _ _ c.next.result before.no_fault c.next.follows.holds-at-none ∙ before.goes.told
+    gives_told (g.F.Files.seen c.records.files) (g.F.Files.seen c.next.new.files) _ _ c.next.result before.no_fault
+    c.next.follows.holds-at-none ∙ before.goes.told
 
 pub returns-in-Ok-None-clause-told : goal.returns-in-Ok-None-clause-told
 returns-in-Ok-None-clause-told g c =
     let before = c.records.invariant in
-    gives_told (g.F.Files.seen c.records.files) (g.F.Files.seen c.next.new.files) _ _ c.next.result before.no_fault c.next.follows.holds-at-none ∙ before.goes.told
+    gives_told (g.F.Files.seen c.records.files) (g.F.Files.seen c.next.new.files) _ _ c.next.result before.no_fault
+    c.next.follows.holds-at-none ∙ before.goes.told
 
 pub returns-in-Err-clause-told : goal.returns-in-Err-clause-told
 returns-in-Err-clause-told g c =
     let before = c.records.invariant in
-    gives_told (g.F.Files.seen c.records.files) (g.F.Files.seen c.next.new.files) _ _ c.next.result before.no_fault c.next.follows.holds-at-none ∙ before.goes.told
+    gives_told (g.F.Files.seen c.records.files) (g.F.Files.seen c.next.new.files) _ _ c.next.result before.no_fault
+    c.next.follows.holds-at-none ∙ before.goes.told

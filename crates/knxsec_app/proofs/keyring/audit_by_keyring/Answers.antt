@@ -8,4 +8,5 @@ pub returns-in-Err-clause-answer : goal.returns-in-Err-clause-answer
 returns-in-Err-clause-answer g c told is =
     let names = c.args.names.now in
     stops_command (keyring_rows (octets_in told names.keyring.now) (octets_in told names.password.now))
-    (λ rows. tables_answer (Some rows) (octets_in told names.tables.now) (octets_in told names.frames.now)) _ _ _ (c.in-Err.ensures.rows told is)
+    (λ rows. tables_answer (Some rows) (octets_in told names.tables.now) (octets_in told names.frames.now)) _ _ _
+    (c.in-Err.ensures.rows told is)

@@ -6,30 +6,41 @@ use Rattle.knxsec_app.proofs.obey.obey.Goals as goal
 
 pub audit-requires : goal.audit-requires
 audit-requires g c = record {
-  there = λ told is. subst (λ command. AreThere (Some (asked_of command)) told) c.in-Audit.is (c.requires.there told is);
+  there =
+      λ told is. subst (λ command. AreThere (Some (asked_of command)) told) c.in-Audit.is (c.requires.there told is);
 }
 
 pub audit_by_keyring-requires : goal.audit_by_keyring-requires
 audit_by_keyring-requires g c = record {
-  there = λ told is. subst (λ command. AreThere (Some (asked_of command)) told) c.in-AuditKeyring.is (c.requires.there told is);
+  there = λ told is. subst (λ command. AreThere (Some (asked_of command)) told) c.in-AuditKeyring.is
+      (c.requires.there told is);
 }
 
 pub returns-in-Audit-clause-answer : goal.returns-in-Audit-clause-answer
 returns-in-Audit-clause-answer g c told are =
-    subst (λ command. Answers (answer_to (Some (asked_of command)) told) c.audit.result (g.S.Sink.octets c.args.out.now) (g.S.Sink.octets c.audit.new.out)) (sym c.in-Audit.is)
-    (c.audit.ensures.answer told (subst (λ command. AreFiles (Some (asked_of command)) (g.F.Files.seen c.args.files.now) told) c.in-Audit.is are))
+    subst (λ command. Answers (answer_to (Some (asked_of command)) told) c.audit.result (g.S.Sink.octets c.args.out.now)
+    (g.S.Sink.octets c.audit.new.out)) (sym c.in-Audit.is)
+    (c.audit.ensures.answer told (subst (λ command. AreFiles (Some (asked_of command)) (g.F.Files.seen c.args.files.now)
+    told) c.in-Audit.is are))
 
 pub returns-in-Audit-clause-unopened : goal.returns-in-Audit-clause-unopened
 returns-in-Audit-clause-unopened g c refused told are =
-    subst (λ command. AreUnopened (Some (asked_of command)) told (g.F.Files.seen c.args.files.now) (g.F.Files.seen c.audit.new.files)) (sym c.in-Audit.is)
-    (c.audit.ensures.unopened refused told (subst (λ command. AreFiles (Some (asked_of command)) (g.F.Files.seen c.args.files.now) told) c.in-Audit.is are))
+    subst (λ command. AreUnopened (Some (asked_of command)) told (g.F.Files.seen c.args.files.now)
+    (g.F.Files.seen c.audit.new.files)) (sym c.in-Audit.is)
+    (c.audit.ensures.unopened refused told (subst (λ command. AreFiles (Some (asked_of command))
+    (g.F.Files.seen c.args.files.now) told) c.in-Audit.is are))
 
 pub returns-in-AuditKeyring-clause-answer : goal.returns-in-AuditKeyring-clause-answer
 returns-in-AuditKeyring-clause-answer g c told are =
-    subst (λ command. Answers (answer_to (Some (asked_of command)) told) c.audit_by_keyring.result (g.S.Sink.octets c.args.out.now) (g.S.Sink.octets c.audit_by_keyring.new.out)) (sym c.in-AuditKeyring.is)
-    (c.audit_by_keyring.ensures.answer told (subst (λ command. AreFiles (Some (asked_of command)) (g.F.Files.seen c.args.files.now) told) c.in-AuditKeyring.is are))
+    subst (λ command. Answers (answer_to (Some (asked_of command)) told) c.audit_by_keyring.result
+    (g.S.Sink.octets c.args.out.now) (g.S.Sink.octets c.audit_by_keyring.new.out)) (sym c.in-AuditKeyring.is)
+    (c.audit_by_keyring.ensures.answer told (subst (λ command. AreFiles (Some (asked_of command))
+    (g.F.Files.seen c.args.files.now) told) c.in-AuditKeyring.is are))
 
 pub returns-in-AuditKeyring-clause-unopened : goal.returns-in-AuditKeyring-clause-unopened
 returns-in-AuditKeyring-clause-unopened g c refused told are =
-    subst (λ command. AreUnopened (Some (asked_of command)) told (g.F.Files.seen c.args.files.now) (g.F.Files.seen c.audit_by_keyring.new.files)) (sym c.in-AuditKeyring.is)
-    (c.audit_by_keyring.ensures.unopened refused told (subst (λ command. AreFiles (Some (asked_of command)) (g.F.Files.seen c.args.files.now) told) c.in-AuditKeyring.is are))
+    subst (λ command. AreUnopened (Some (asked_of command)) told (g.F.Files.seen c.args.files.now)
+    (g.F.Files.seen c.audit_by_keyring.new.files)) (sym c.in-AuditKeyring.is)
+    (c.audit_by_keyring.ensures.unopened refused told (subst
+    (λ command. AreFiles (Some (asked_of command)) (g.F.Files.seen c.args.files.now) told) c.in-AuditKeyring.is
+    are))

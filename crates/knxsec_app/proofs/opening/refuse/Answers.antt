@@ -17,7 +17,8 @@ returns-in-Ok-clause-refusal c =
     let exact = c.in-Ok.ensures.exact in
     c.refuse_frame.ensures.refusal
     ∙ ap (λ (t : Telegram). first_failing (telegram_checks key t)) exact.1
-    ∙ ap (λ (f : Option NotFrame). first_failing (option_map verdict.NotFrame f ∷ telegram_checks key (frame_at octets))) (sym exact.0)
+    ∙ ap (λ (f : Option NotFrame). first_failing (option_map verdict.NotFrame f
+    ∷ telegram_checks key (frame_at octets))) (sym exact.0)
 
 pub returns-in-Ok-clause-opened : goal.returns-in-Ok-clause-opened
 unfolding apdu_of
@@ -30,4 +31,5 @@ unfolding refusal_of
 returns-in-Err-clause-refusal c =
     let key = c.args.key.now in
     let octets = c.args.octets.now in
-    ap (λ (f : Option NotFrame). first_failing (option_map verdict.NotFrame f ∷ telegram_checks key (frame_at octets))) (sym c.in-Err.ensures.exact)
+    ap (λ (f : Option NotFrame). first_failing (option_map verdict.NotFrame f ∷ telegram_checks key (frame_at octets)))
+    (sym c.in-Err.ensures.exact)

@@ -9,9 +9,13 @@ use Rattle.knxsec_app.proofs.report.finish.Goals as goal
 
 pub returns-in-Ok-clause-answer : goal.returns-in-Ok-clause-answer
 returns-in-Ok-clause-answer g c =
-    ended_answers c.print_total.result _ _ _ (total_status c.args.audit.now.total) c.ended.result (total_status-of_answer c.args.audit.now.total)
-    (prints_then _ _ _ c.print_total.result c.args.page.now.held (total_text c.args.audit.now.total) c.in-Ok.ensures.text c.print_total.ensures.text)
-    (subst (λ status. MatchResult c.print_total.result (λ _. c.ended.result ≡ status) (λ _. c.ended.result ≡ WriteFault)) c.total_status.ensures c.ended.ensures)
+    ended_answers c.print_total.result _ _ _ (total_status c.args.audit.now.total) c.ended.result
+    (total_status-of_answer c.args.audit.now.total)
+    (prints_then _ _ _ c.print_total.result c.args.page.now.held (total_text c.args.audit.now.total)
+    c.in-Ok.ensures.text c.print_total.ensures.text)
+    (subst (λ status. MatchResult c.print_total.result (λ _. c.ended.result ≡ status)
+    (λ _. c.ended.result ≡ WriteFault)) c.total_status.ensures c.ended.ensures)
 
 pub returns-in-Err-clause-answer : goal.returns-in-Err-clause-answer
-returns-in-Err-clause-answer g c = prefix_more _ _ c.args.page.now.held (total_text c.args.audit.now.total) c.in-Err.ensures.text
+returns-in-Err-clause-answer g c =
+    prefix_more _ _ c.args.page.now.held (total_text c.args.audit.now.total) c.in-Err.ensures.text

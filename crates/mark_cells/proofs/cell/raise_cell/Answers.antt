@@ -10,23 +10,28 @@ returns-in_err-read-clause-makes g c =
 
 pub returns-clause-makes : goal.returns-clause-makes
 returns-clause-makes g c =
-    makes_raise c.read.new.out c.to_bytes.result c.args.at c.other_copy-other.result c.args.new c.requires.inside c.in_ok-read.ensures.octets
-    c.other_copy-other.ensures.place (omega (arith, c.other_copy-other.ensures.copies)) c.to_bytes.ensures.octets c.in_ok-read.ensures.reads c.write_gated.ensures.makes
+    makes_raise c.read.new.out c.to_bytes.result c.args.at c.other_copy-other.result c.args.new c.requires.inside
+    c.in_ok-read.ensures.octets
+    c.other_copy-other.ensures.place (omega (arith, c.other_copy-other.ensures.copies)) c.to_bytes.ensures.octets
+    c.in_ok-read.ensures.reads c.write_gated.ensures.makes
 
 pub returns-clause-any_moment : goal.returns-clause-any_moment
 returns-clause-any_moment g c =
     makes_moments c.args.at c.args.new c.requires.inside c.requires.below
-    (fits_octets c.args.new c.to_bytes.result c.to_bytes.ensures.octets c.to_bytes.ensures.back) (returns-clause-makes g c)
+    (fits_octets c.args.new c.to_bytes.result c.to_bytes.ensures.octets c.to_bytes.ensures.back)
+    (returns-clause-makes g c)
 
 pub returns-clause-raised : goal.returns-clause-raised
 returns-clause-raised g c =
     makes_raised c.write_gated.result c.args.at c.args.new c.requires.inside c.requires.below
-    (fits_octets c.args.new c.to_bytes.result c.to_bytes.ensures.octets c.to_bytes.ensures.back) (returns-clause-makes g c)
+    (fits_octets c.args.new c.to_bytes.result c.to_bytes.ensures.octets c.to_bytes.ensures.back)
+    (returns-clause-makes g c)
 
 pub returns-clause-now : goal.returns-clause-now
 returns-clause-now g c =
     makes_now c.args.at c.args.new c.requires.inside c.requires.below
-    (fits_octets c.args.new c.to_bytes.result c.to_bytes.ensures.octets c.to_bytes.ensures.back) (returns-clause-makes g c)
+    (fits_octets c.args.new c.to_bytes.result c.to_bytes.ensures.octets c.to_bytes.ensures.back)
+    (returns-clause-makes g c)
 
 pub returns-clause-others : goal.returns-clause-others
 returns-clause-others g c = others_read c.args.at (returns-clause-now g c).outside

@@ -4,4 +4,5 @@ use Rattle.mark_cells.proofs.cell.read_cell.Goals as goal
 
 pub returns-in-Some-clause-value : goal.returns-in-Some-clause-value
 returns-in-Some-clause-value g c =
-    sym (c.in-Some.ensures.value ∙ reading_same c.read.new.out _ c.args.at (copied_from c.read.new.out _ c.args.at c.requires.inside c.in_ok-read.ensures.octets))
+    sym (c.in-Some.ensures.value ∙ reading_same c.read.new.out _ c.args.at
+    (copied_from c.read.new.out _ c.args.at c.requires.inside c.in_ok-read.ensures.octets))

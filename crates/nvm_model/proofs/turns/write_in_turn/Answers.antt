@@ -4,11 +4,13 @@ use Rattle.nvm_model.proofs.turns.write_in_turn.Goals as goal
 
 pub loop-piece-preserved : goal.loop-piece-preserved
 loop-piece-preserved g c =
-    makes_more (write_of c.args.first) c.args.rest.now c.loop-piece.piece-index _ c.loop-piece-test.true c.loop-piece.invariant c.in_default.ensures.makes
+    makes_more (write_of c.args.first) c.args.rest.now c.loop-piece.piece-index _ c.loop-piece-test.true
+    c.loop-piece.invariant c.in_default.ensures.makes
 
 pub returns-in-Err-clause-makes : goal.returns-in-Err-clause-makes
 returns-in-Err-clause-makes g c =
-    makes_no_more (write_of c.args.first) c.args.rest.now c.loop-piece.piece-index _ c.loop-piece-test.true c.loop-piece.invariant c.in-Err.ensures.makes
+    makes_no_more (write_of c.args.first) c.args.rest.now c.loop-piece.piece-index _ c.loop-piece-test.true
+    c.loop-piece.invariant c.in-Err.ensures.makes
 
 pub returns-in_err-write-clause-divides : goal.returns-in_err-write-clause-divides
 returns-in_err-write-clause-divides g c = strike_divided (writes_of c.args.first c.args.rest.now)

@@ -17,4 +17,5 @@ returns-in-Some-clause-node c =
     c.index-nodes-place.is)
 
 pub returns-in-None-clause-none : goal.returns-in-None-clause-none
-returns-in-None-clause-none c = found_nowhere cause.Name _ c.args.nodes.now (sym c.place_of.ensures.place ∙ c.in-None.is)
+returns-in-None-clause-none c =
+    found_nowhere cause.Name _ c.args.nodes.now (sym c.place_of.ensures.place ∙ c.in-None.is)

@@ -17,4 +17,9 @@ open-requires-clause-room c =
 
 pub invariant_of-out-2 : goal.invariant_of-out-2
 invariant_of-out-2 c =
-    omega (arith, c.in_ok-out-inside.ensures.length, (open_body _ _ _ _ _ c.requires.faultless c.requires.parts c.args.frame.now.fits).2)
+    omega (
+      arith,
+      c.in_ok-out-inside.ensures.length,
+      (open_body _ _ _ _ _ c.requires.faultless c.requires.parts
+          c.args.frame.now.fits).2,
+    )

@@ -9,11 +9,13 @@ returns-then-length-lt-SHORTEST-clause-exact c = bad_secure-short c.args.frame.n
 
 pub returns-in-Some-clause-exact : goal.returns-in-Some-clause-exact
 returns-in-Some-clause-exact c =
-    bad_secure_from c.args.frame.now.content.now _ _ _ (omega arith) c.is_group.ensures c.fault_of.ensures ∙ c.in-Some.is
+    bad_secure_from c.args.frame.now.content.now _ _ _ (omega arith) c.is_group.ensures c.fault_of.ensures
+    ∙ c.in-Some.is
 
 pub returns-in-None-clause-exact : goal.returns-in-None-clause-exact
 returns-in-None-clause-exact c =
-    bad_secure_from c.args.frame.now.content.now _ _ _ (omega arith) c.is_group.ensures c.fault_of.ensures ∙ c.in-None.is
+    bad_secure_from c.args.frame.now.content.now _ _ _ (omega arith) c.is_group.ensures c.fault_of.ensures
+    ∙ c.in-None.is
 
 pub returns-in-None-clause-parts : goal.returns-in-None-clause-parts
 unfolding number_at

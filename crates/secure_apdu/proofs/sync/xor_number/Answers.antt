@@ -6,11 +6,14 @@ use Rattle.secure_apdu.proofs.SyncLemmas.{xor_octets-six, xor_octets-twice}
 use Rattle.secure_apdu.proofs.sync.xor_number.Goals as goal
 
 pub returns-clause-octets : goal.returns-clause-octets
-returns-clause-octets c = c.from_bytes.ensures.back ∙ xor_octets-six c.args.challenge c.to_bytes.result (search rules) (ap length c.to_bytes.ensures.octets ∙ length-octets_of c.args.number)
+returns-clause-octets c = c.from_bytes.ensures.back ∙ xor_octets-six c.args.challenge c.to_bytes.result (search rules)
+    (ap length c.to_bytes.ensures.octets ∙ length-octets_of c.args.number)
     ∙ ap (xor_octets c.args.challenge) c.to_bytes.ensures.octets
 
 pub returns-clause-value : goal.returns-clause-value
-returns-clause-value c = c.from_bytes.ensures.value ∙ ap number_of (xor_octets-six c.args.challenge c.to_bytes.result (search rules) (ap length c.to_bytes.ensures.octets ∙ length-octets_of c.args.number)
+returns-clause-value c = c.from_bytes.ensures.value ∙ ap number_of
+    (xor_octets-six c.args.challenge c.to_bytes.result (search rules)
+    (ap length c.to_bytes.ensures.octets ∙ length-octets_of c.args.number)
     ∙ ap (xor_octets c.args.challenge) c.to_bytes.ensures.octets)
 
 pub returns-clause-back : goal.returns-clause-back
@@ -19,4 +22,5 @@ returns-clause-back c = let six : length c.args.challenge ≡ 6 = search rules i
     ∙ xor_octets-twice c.args.challenge _ (six ∙ sym (length-octets_of c.args.number))
 
 pub returns-clause-twice : goal.returns-clause-twice
-returns-clause-twice c = ap number_of (returns-clause-back c) ∙ sym (ap number_of c.to_bytes.ensures.octets) ∙ c.to_bytes.ensures.back
+returns-clause-twice c =
+    ap number_of (returns-clause-back c) ∙ sym (ap number_of c.to_bytes.ensures.octets) ∙ c.to_bytes.ensures.back

@@ -10,23 +10,28 @@ pub returns-in-Err-write-clause-makes : goal.returns-in-Err-write-clause-makes
 returns-in-Err-write-clause-makes g c =
     zeros_stop c.args.reserved c.args.marks.now 0
     (zeros_begin c.args.reserved c.args.marks.now
-    (before_makes c.args.reserved c.args.marks.now (15 + 6 * length c.args.marks.now) refl c.in_default.ensures.makes c.in-Err-write.ensures.makes))
+    (before_makes c.args.reserved c.args.marks.now (15 + 6 * length c.args.marks.now) refl c.in_default.ensures.makes
+    c.in-Err-write.ensures.makes))
 
 pub loop-k-init : goal.loop-k-init
 loop-k-init g c =
     zeros_begin c.args.reserved c.args.marks.now
-    (before_makes c.args.reserved c.args.marks.now (15 + 6 * length c.args.marks.now) refl c.in_default.ensures.makes c.in_default-write.ensures.makes)
+    (before_makes c.args.reserved c.args.marks.now (15 + 6 * length c.args.marks.now) refl c.in_default.ensures.makes
+    c.in_default-write.ensures.makes)
 
 pub returns-in-Err-write-2-clause-makes : goal.returns-in-Err-write-2-clause-makes
 returns-in-Err-write-2-clause-makes g c =
     zeros_stop c.args.reserved c.args.marks.now (c.loop-k.k + 1)
-    (zeros_more c.args.reserved c.args.marks.now c.loop-k.k (286 + 6 * length c.args.marks.now + 6 * c.loop-k.k) c.loop-k-test.true refl
+    (zeros_more c.args.reserved c.args.marks.now c.loop-k.k (286 + 6 * length c.args.marks.now + 6 * c.loop-k.k)
+    c.loop-k-test.true refl
     c.loop-k.invariant c.in-Err-write-2.ensures.makes)
 
 pub loop-k-preserved : goal.loop-k-preserved
 loop-k-preserved g c =
-    zeros_more c.args.reserved c.args.marks.now c.loop-k.k (286 + 6 * length c.args.marks.now + 6 * c.loop-k.k) c.loop-k-test.true refl
+    zeros_more c.args.reserved c.args.marks.now c.loop-k.k (286 + 6 * length c.args.marks.now + 6 * c.loop-k.k)
+    c.loop-k-test.true refl
     c.loop-k.invariant c.in_default-write-2.ensures.makes
 
 pub returns-clause-makes : goal.returns-clause-makes
-returns-clause-makes g c = zeros_end c.args.reserved c.args.marks.now c.loop-k.k (omega (arith, c.loop-k-test.false)) c.loop-k.invariant
+returns-clause-makes g c =
+    zeros_end c.args.reserved c.args.marks.now c.loop-k.k (omega (arith, c.loop-k-test.false)) c.loop-k.invariant

@@ -14,6 +14,8 @@ returns-in-Err g c =
 pub returns : goal.returns
 returns g c =
     raises c.args.lanes c.args.value c.args.number c.requires.may
-    (subst (λ o. Makes (raise_writes c.args.lanes o c.args.value c.args.number) (fault_of c.write_raise.result) (g.M.Nvm.state c.args.memory.now)
-    (g.M.Nvm.state c.write_raise.new.memory) (g.M.Nvm.images c.args.memory.now) (g.M.Nvm.images c.write_raise.new.memory))
+    (subst (λ o. Makes (raise_writes c.args.lanes o c.args.value c.args.number) (fault_of c.write_raise.result)
+    (g.M.Nvm.state c.args.memory.now)
+    (g.M.Nvm.state c.write_raise.new.memory) (g.M.Nvm.images c.args.memory.now)
+    (g.M.Nvm.images c.write_raise.new.memory))
     c.in_default.ensures.octets (makes_after_read c.in_default.ensures.reads c.write_raise.ensures))

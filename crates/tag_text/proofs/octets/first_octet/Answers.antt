@@ -6,5 +6,6 @@ use Rattle.tag_text.proofs.octets.first_octet.Goals as goal
 pub range_from-requires : goal.range_from-requires
 range_from-requires c =
     let ascii : get_or c.args.text.now 0 0 < 128 = rw (← c.as_bytes-octets.ensures.value) c.if-octets-ge128.false in
-    let some : 0 < length c.args.text.now = grind (arith, nat_tests, c.as_bytes-octets.ensures.value, c.is_empty.ensures, c.if-is_empty.false) in
+    let some : 0 < length c.args.text.now =
+    grind (arith, nat_tests, c.as_bytes-octets.ensures.value, c.is_empty.ensures, c.if-is_empty.false) in
     λ _. IsCharBoundary-after_ascii c.args.text.now 0 c.utf8.text some ascii

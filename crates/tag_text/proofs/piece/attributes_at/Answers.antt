@@ -11,11 +11,13 @@ pub attributes-preserved : goal.attributes-preserved
 attributes-preserved c = record {
   whole =
       more_attributes _ _ c.attributes.rest.now c.in-Ok-Some.after.now c.in-Ok-Some.name c.in-Ok-Some.value _
-      (rw c.in-Ok-Some.field-0-is at c.in-Ok-Some.ensures.attribute) c.in_ok-push-in-Ok-Some.ensures.ok c.attributes.invariant.whole;
+      (rw c.in-Ok-Some.field-0-is at c.in-Ok-Some.ensures.attribute) c.in_ok-push-in-Ok-Some.ensures.ok
+      c.attributes.invariant.whole;
   utf8 = search rules;
 }
 
 pub returns-in-Ok-None : goal.returns-in-Ok-None
 returns-in-Ok-None c = record {
-  attributes = all_attributes _ c.attributes.rest.now _ (rw c.in-Ok-None.field-0-is at c.in-Ok-None.ensures.attribute) c.attributes.invariant.whole;
+  attributes = all_attributes _ c.attributes.rest.now _ (rw c.in-Ok-None.field-0-is at c.in-Ok-None.ensures.attribute)
+      c.attributes.invariant.whole;
 }

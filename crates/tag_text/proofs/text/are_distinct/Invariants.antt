@@ -13,7 +13,8 @@ abbrev pub invariant-names : goal.invariant-names
 invariant-names l = record {
   within : l.left ≤ length l.pairs;
   distinct : are_distinct (drop l.left l.pairs) ≡ true;
-  names : (name : Bor (List ℕ)) → contains (λ x y. slice_cmp nat_cmp x.now y.now) l.names name ≡ list_any (λ other. bytes_eq other.0 name.now) (drop l.left l.pairs);
+  names : (name : Bor (List ℕ)) → contains (λ x y. slice_cmp nat_cmp x.now y.now) l.names name
+      ≡ list_any (λ other. bytes_eq other.0 name.now) (drop l.left l.pairs);
 }
 
 abbrev pub decreases-names : goal.decreases-names

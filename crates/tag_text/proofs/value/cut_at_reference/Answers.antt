@@ -8,7 +8,11 @@ returns-in-Some-clause-parts c =
 
 pub returns-in-Some-clause-less : goal.returns-in-Some-clause-less
 returns-in-Some-clause-less c =
-    omega (arith, (cut_is 38 c.args.text.now c.in-Some.front.now c.in-Some.rest.now (rw c.in-Some.is at c.cut_at.ensures.parts)).less)
+    omega (
+      arith,
+      (cut_is 38 c.args.text.now c.in-Some.front.now c.in-Some.rest.now
+          (rw c.in-Some.is at c.cut_at.ensures.parts)).less,
+    )
 
 pub returns-in-None-clause-parts : goal.returns-in-None-clause-parts
 returns-in-None-clause-parts c = no_cut 38 c.args.text.now (rw c.in-None.is at c.cut_at.ensures.parts)

@@ -11,7 +11,8 @@ returns-in_default c = record {
 pub breaks-preserved : goal.breaks-preserved
 breaks-preserved c = record {
   whole =
-      one_more _ _ _ _ c.breaks.rest.now c.cut_at_break.result.1.now c.in-Some.after.now _ c.in_ok-push_str.ensures.bytes c.in_ok-push_str-2.ensures.bytes
+      one_more _ _ _ _ c.breaks.rest.now c.cut_at_break.result.1.now c.in-Some.after.now _
+      c.in_ok-push_str.ensures.bytes c.in_ok-push_str-2.ensures.bytes
       c.cut_at_break.ensures.plain c.in-Some.ensures.after c.breaks.invariant.whole;
   utf8 = search rules;
 }

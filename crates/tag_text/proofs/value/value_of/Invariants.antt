@@ -9,7 +9,8 @@ use Rattle.tag_text.proofs.value.value_of.Given as goal
 -- what was appended and the value of the parts that are left are the whole value
 abbrev pub invariant-parts : goal.invariant-parts
 invariant-parts l = record {
-  whole : with_front (string_bytes l.value) (value_after (parts_left (option_map (λ rest. rest.now) l.rest))) ≡ value_of l.raw;
+  whole : with_front (string_bytes l.value) (value_after (parts_left (option_map (λ rest. rest.now) l.rest)))
+      ≡ value_of l.raw;
   utf8 : IfSome l.rest (λ rest. IsUtf8 rest.now);
 }
 

@@ -8,7 +8,8 @@ invariant-octets g l = record {
   goes : GoesOn (g.F.Files.seen l.fn.files) (g.F.Files.seen l.files) l.fn.source l.source (length l.line);
   room : length l.line ≤ 1025;
   none : All (λ octet. eqb octet 10 ≡ false) l.line;
-  given : WhereTold (g.F.Files.seen l.fn.files) (λ octets. ahead (g.F.Files.seen l.fn.files) l.fn.source octets ≡ l.line ++ ahead (g.F.Files.seen l.files) l.source octets);
+  given : WhereTold (g.F.Files.seen l.fn.files) (λ octets. ahead (g.F.Files.seen l.fn.files) l.fn.source octets ≡ l.line
+      ++ ahead (g.F.Files.seen l.files) l.source octets);
 }
 
 abbrev pub decreases-octets : goal.decreases-octets

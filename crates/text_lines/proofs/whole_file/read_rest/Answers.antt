@@ -13,6 +13,16 @@ pieces-preserved g c =
     record {
       goes = piece_goes start now next c.fill.new.self before.goes c.in-Ok.ensures.goes;
       empty = search rules;
-      room = omega (arith, before.room, c.if-bytes-most.false, ap length all, length-append c.pieces.text.items c.fill.new.self, ap length c.bytes.ensures.octets, c.len.ensures);
-      given = piece_given start now next c.fill.new.self c.pieces.text.items c.extend_from_slice.new.self.items before.goes before.given c.in-Ok.ensures.given all;
+      room = omega (
+        arith,
+        before.room,
+        c.if-bytes-most.false,
+        ap length all,
+        length-append c.pieces.text.items
+            c.fill.new.self,
+        ap length c.bytes.ensures.octets,
+        c.len.ensures,
+      );
+      given = piece_given start now next c.fill.new.self c.pieces.text.items c.extend_from_slice.new.self.items
+          before.goes before.given c.in-Ok.ensures.given all;
     }

@@ -7,7 +7,8 @@ invariant-pieces g l = record {
   goes : GoesOn (g.F.Files.seen l.fn.files) (g.F.Files.seen l.files) [] [] 0;
   empty : l.source ≡ [];
   room : length l.text.items ≤ l.most;
-  given : WhereTold (g.F.Files.seen l.fn.files) (λ octets. drop (g.F.Files.seen l.fn.files).place octets ≡ l.text.items ++ drop (g.F.Files.seen l.files).place octets);
+  given : WhereTold (g.F.Files.seen l.fn.files) (λ octets. drop (g.F.Files.seen l.fn.files).place octets ≡ l.text.items
+      ++ drop (g.F.Files.seen l.files).place octets);
 }
 
 abbrev pub decreases-pieces : goal.decreases-pieces

@@ -17,7 +17,8 @@ rounds-preserved c =
     let next : c.rounds.n + 1 - 1 ≡ suc (c.rounds.n - 1) = omega arith in
     c.round-next.ensures
     ∙ (λ i. round (c.rounds.invariant i) (key c.rounds.n (omega arith) i))
-    ∙ ap (λ (m : ℕ). round (rounds c.args.self.now c.args.block.now (c.rounds.n - 1)) (key_expansion c.args.self.now m)) n
+    ∙ ap (λ (m : ℕ). round (rounds c.args.self.now c.args.block.now (c.rounds.n - 1)) (key_expansion c.args.self.now m))
+    n
     ∙ ap (λ (m : ℕ). rounds c.args.self.now c.args.block.now m) (sym next)
 
 pub returns : goal.returns
@@ -27,4 +28,5 @@ returns c =
     let n : c.rounds.n - 1 ≡ 9 = omega arith in
     c.store.ensures
     ∙ c.last_round.ensures
-    ∙ (λ i. last_round ((c.rounds.invariant ∙ ap (rounds c.args.self.now c.args.block.now) n) i) (key 10 (omega arith) i))
+    ∙ (λ i. last_round ((c.rounds.invariant ∙ ap (rounds c.args.self.now c.args.block.now) n) i)
+    (key 10 (omega arith) i))

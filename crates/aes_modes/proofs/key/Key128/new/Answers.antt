@@ -18,14 +18,16 @@ expansion-init c = record {
 }
 
 -- the round key that is written is the next one
-next_is : (c : goal.After-next_round_key-next) → block_of c.next_round_key-next.result ≡ key_expansion c.args.key (c.expansion.n + 1)
+next_is : (c : goal.After-next_round_key-next) → block_of c.next_round_key-next.result
+    ≡ key_expansion c.args.key (c.expansion.n + 1)
 unfolding key_expansion
 next_is c =
     let key = c.args.key in
     let n = c.expansion.n in
     let last : block_of (slice_index_or c.expansion.round_keys n []) ≡ key_expansion key n =
     ap block_of (c.expansion.invariant.expanded n (omega arith))
-    ∙ block_of-columns_of (key_expansion key n) (IsBlock_key_expansion key (subst IsBlock c.load-first.ensures.same (IsBlock_block_of c.load-first.result)) n (omega arith)) in
+    ∙ block_of-columns_of (key_expansion key n) (IsBlock_key_expansion key
+    (subst IsBlock c.load-first.ensures.same (IsBlock_block_of c.load-first.result)) n (omega arith)) in
     let constant : slice_index ROUND_CONSTANTS n ≡ round_constant n = round_constant_at n (omega arith) in
     c.next_round_key-next.ensures.same
     ∙ (λ i. square (next_entry (last i) (constant i)))
@@ -51,7 +53,8 @@ expansion-preserved c =
 -- the first round key is the key
 first_is : (c : goal.After-expansion) → block_of (slice_index_or c.expansion.round_keys 0 []) ≡ c.args.key
 unfolding key_expansion
-first_is c = ap block_of (c.expansion.invariant.expanded 0 (omega arith)) ∙ ap block_of (sym c.load-first.ensures.columns) ∙ c.load-first.ensures.same
+first_is c = ap block_of (c.expansion.invariant.expanded 0 (omega arith))
+    ∙ ap block_of (sym c.load-first.ensures.columns) ∙ c.load-first.ensures.same
 
 pub invariant_of-result : goal.invariant_of-result
 invariant_of-result c =

@@ -14,7 +14,8 @@ each-preserved c =
       fed = λ fed h.
           let more : (fed ++ take (16 * n) blocks) ++ c.block_at.result ≡ fed ++ take (16 * (n + 1)) blocks =
           append_assoc fed (take (16 * n) blocks) c.block_at.result
-          ∙ ap (λ (l : List ℕ). fed ++ l) (ap (λ (l : List ℕ). take (16 * n) blocks ++ l) c.block_at.ensures.block ∙ sym (take-block blocks n (omega arith))) in
+          ∙ ap (λ (l : List ℕ). fed ++ l) (ap (λ (l : List ℕ). take (16 * n) blocks ++ l) c.block_at.ensures.block
+          ∙ sym (take-block blocks n (omega arith))) in
           subst (λ (l : List ℕ). WasFed c.feed_block.new.self l) more
           (c.feed_block.ensures.fed (fed ++ take (16 * n) blocks) (c.each.invariant.fed fed h));
     }

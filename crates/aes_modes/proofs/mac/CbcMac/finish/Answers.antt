@@ -7,7 +7,8 @@ pub returns-then-self-gt0-clause-mac : goal.returns-then-self-gt0-clause-mac
 returns-then-self-gt0-clause-mac c = λ fed h.
     let state : MacState = record { key = c.self.inside.key; block = c.self.inside.block; used = c.self.inside.used } in
     let held : WasFed state fed = subst (λ (s : MacState). WasFed s fed) (sym c.self.view_is) h in
-    c.encrypt_block.ensures ∙ WasFed-mac_within state fed held c.if-self-gt0.true ∙ ap (λ (s : MacState). mac_of s.key fed) c.self.view_is
+    c.encrypt_block.ensures ∙ WasFed-mac_within state fed held c.if-self-gt0.true
+    ∙ ap (λ (s : MacState). mac_of s.key fed) c.self.view_is
 
 pub returns-else-self-gt0-clause-mac : goal.returns-else-self-gt0-clause-mac
 returns-else-self-gt0-clause-mac c = λ fed h.

@@ -11,4 +11,5 @@ returns-in_ok-keep-in-SyncAnswer-clause-asked c =
     let t = telegram c.args.frame.now in
     c.close.ensures.closed
     ∙ (λ i. with_pair (c.receiver-in-SyncAnswer.ensures i) (source_of t) None (asked_in (c.keep.ensures.asked i)))
-    ∙ ap (λ said. exchanged (source_of t) (receiver_of t) said (asked_in c.args.self.now.asked)) (sym c.in-SyncAnswer.is)
+    ∙ ap (λ said. exchanged (source_of t) (receiver_of t) said (asked_in c.args.self.now.asked))
+    (sym c.in-SyncAnswer.is)

@@ -9,7 +9,8 @@ invariant-lines g l = record {
   goes : GoesOn (g.F.Files.seen l.fn.files) (g.F.Files.seen l.files) (state_of l.fn.self).held (state_of l.self).held 0;
   at : IsAt (g.F.Files.seen l.files) (state_of l.self);
   counted : (state_of l.self).given ≡ (state_of l.fn.self).given;
-  left_is : WhereTold (g.F.Files.seen l.fn.files) (λ octets. left (g.F.Files.seen l.fn.files) (state_of l.fn.self) octets ≡ left (g.F.Files.seen l.files) (state_of l.self) octets);
+  left_is : WhereTold (g.F.Files.seen l.fn.files) (λ octets. left (g.F.Files.seen l.fn.files) (state_of l.fn.self)
+      octets ≡ left (g.F.Files.seen l.files) (state_of l.self) octets);
 }
 
 abbrev pub decreases-lines : goal.decreases-lines

@@ -9,5 +9,6 @@ invariant_of-self c =
     let before : ObjectsState = record { rows = c.self.inside.rows.items; values = c.self.inside.values.items } in
     keeps_row before c.args.index c.args.value
     (subst (λ (objects : ObjectsState). c.args.index < length objects.rows) (sym c.self.view_is) c.requires.there)
-    (subst (λ (objects : ObjectsState). IfSome (slice_get objects.rows c.args.index) (λ row. same_form c.args.value row.value ≡ true)) (sym c.self.view_is) c.requires.form)
+    (subst (λ (objects : ObjectsState). IfSome (slice_get objects.rows c.args.index)
+    (λ row. same_form c.args.value row.value ≡ true)) (sym c.self.view_is) c.requires.form)
     c.self.invariant

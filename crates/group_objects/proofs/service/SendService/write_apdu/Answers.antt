@@ -6,7 +6,8 @@ use Rattle.group_objects.proofs.service.SendService.write_apdu.Goals as goal
 
 pub returns-in-Read-clause-reads_back : goal.returns-in-Read-clause-reads_back
 returns-in-Read-clause-reads_back c =
-    subst (λ service. ReadsBack service c.args.value.now (service_apdu service c.args.value.now)) (sym c.in-Read.is) (read_back c.args.value.now)
+    subst (λ service. ReadsBack service c.args.value.now (service_apdu service c.args.value.now)) (sym c.in-Read.is)
+    (read_back c.args.value.now)
 
 pub returns-in-Write-clause-reads_back : goal.returns-in-Write-clause-reads_back
 returns-in-Write-clause-reads_back c =

@@ -10,6 +10,7 @@ abbrev pub invariant-objects : goal.invariant-objects
 invariant-objects g l =
     let values = take 64 (values_of l.self.node.standing) in
     record {
-      printed : IsPrinted value_text (enumerate_from 0 values) (drop l.object (enumerate_from 0 values)) (g.S.Sink.octets l.fn.out) (g.S.Sink.octets l.out);
+      printed : IsPrinted value_text (enumerate_from 0 values) (drop l.object (enumerate_from 0 values))
+          (g.S.Sink.octets l.fn.out) (g.S.Sink.octets l.out);
       kept : g.S.Sink.faults l.out ≡ g.S.Sink.faults l.fn.out;
     }

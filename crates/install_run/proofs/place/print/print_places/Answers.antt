@@ -7,15 +7,18 @@ pub returns-in_err-print_place-clause-text : goal.returns-in_err-print_place-cla
 returns-in_err-print_place-clause-text g c =
     one_failed _ c.from_residual.result _ _ c.places.invariant.printed
     (next_place c.args.nodes.now c.args.places.now c.places.index c.index-nodes-index.result c.index-places-index.result
-    (grind (arith, c.places-test.true, c.min-index-end.ensures)) (grind (arith, c.places-test.true, c.min-index-end.ensures))
+    (grind (arith, c.places-test.true, c.min-index-end.ensures))
+    (grind (arith, c.places-test.true, c.min-index-end.ensures))
     c.index-nodes-index.is c.index-places-index.is)
     c.from_residual.ensures.0 c.in_err-print_place.ensures.text
 
 pub places-preserved : goal.places-preserved
 places-preserved g c = record {
   printed = one_more _ _ c.places.invariant.printed
-      (next_place c.args.nodes.now c.args.places.now c.places.index c.index-nodes-index.result c.index-places-index.result
-      (grind (arith, c.places-test.true, c.min-index-end.ensures)) (grind (arith, c.places-test.true, c.min-index-end.ensures))
+      (next_place c.args.nodes.now c.args.places.now c.places.index c.index-nodes-index.result
+      c.index-places-index.result
+      (grind (arith, c.places-test.true, c.min-index-end.ensures))
+      (grind (arith, c.places-test.true, c.min-index-end.ensures))
       c.index-nodes-index.is c.index-places-index.is)
       c.in_ok-print_place.ensures.text;
   kept = search rules;
@@ -24,4 +27,5 @@ places-preserved g c = record {
 pub returns-clause-text : goal.returns-clause-text
 returns-clause-text g c =
     all_printed c.places.invariant.printed
-    (no_place_left c.args.nodes.now c.args.places.now c.places.index (subst (λ n. n ≤ c.places.index) c.min-index-end.ensures c.places-test.false))
+    (no_place_left c.args.nodes.now c.args.places.now c.places.index
+    (subst (λ n. n ≤ c.places.index) c.min-index-end.ensures c.places-test.false))

@@ -7,6 +7,7 @@ use Rattle.install_run.proofs.place.print.print_places.Given as goal
 -- the nodes so far are printed
 abbrev pub invariant-places : goal.invariant-places
 invariant-places g l = record {
-  printed : IsPrinted place_end (zip l.nodes l.places) (drop l.index (zip l.nodes l.places)) (g.S.Sink.octets l.fn.out) (g.S.Sink.octets l.out);
+  printed : IsPrinted place_end (zip l.nodes l.places) (drop l.index (zip l.nodes l.places)) (g.S.Sink.octets l.fn.out)
+      (g.S.Sink.octets l.out);
   kept : g.S.Sink.faults l.out ≡ g.S.Sink.faults l.fn.out;
 }

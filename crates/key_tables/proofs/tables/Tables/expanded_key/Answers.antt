@@ -9,5 +9,6 @@ returns-in_err-row c =
 
 pub returns : goal.returns
 returns c = record {
-  key = key_found c.deref.result.now c.args.self.now c.args.channel (Some c.in_ok-row.row.now) (search rules) (search rules);
+  key = key_found c.deref.result.now c.args.self.now c.args.channel (Some c.in_ok-row.row.now) (search rules)
+      (search rules);
 }

@@ -10,6 +10,7 @@ returns-clause-added c = λ contents holds. (
   record { rows = contents.rows ++ row.Group c.args.group c.args.key Auth ∷ []; listings = contents.listings },
   taken_once contents c.args.place (channel.Group c.args.group) (row.Group c.args.group c.args.key Auth)
       (sym (holds.group_known c.args.group) ∙ not_known _ _ c.in_ok-insert.ensures.added c.if-not-branch.false),
-  one_group c.args.self.now c.push.new.self c.insert.new.self contents c.args.group c.args.key holds c.in_ok-push.ensures.items
+  one_group c.args.self.now c.push.new.self c.insert.new.self contents c.args.group c.args.key holds
+      c.in_ok-push.ensures.items
       c.in_ok-insert.ensures.keys c.in_ok-insert.ensures.updates.0,
 )

@@ -12,7 +12,12 @@ so_far line store len is fits = ap length (sym is) ∙ length-take-le len store 
 
 pub put_decimal-self-inside-requires : goal.put_decimal-self-inside-requires
 put_decimal-self-inside-requires c = record {
-  room = omega (arith, digits c.args.number (omega arith), so_far _ c.self.inside.store c.self.inside.len c.self.view_is (omega arith));
+  room = omega (
+    arith,
+    digits c.args.number (omega arith),
+    so_far _ c.self.inside.store c.self.inside.len c.self.view_is
+        (omega arith),
+  );
 }
 
 pub returns-clause-short : goal.returns-clause-short

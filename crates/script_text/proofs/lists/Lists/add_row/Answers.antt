@@ -7,8 +7,10 @@ use Rattle.script_text.proofs.lists.Lists.add_row.Goals as goal
 pub invariant_of-self : goal.invariant_of-self
 invariant_of-self c =
     let was = c.self.invariant in record {
-      named = rows_still_named c.self.inside.rows c.add.new.self c.args.row c.in-Ok.ensures.added.0 was.named c.requires.said;
-      stand = rows_still_stand c.self.inside.rows c.add.new.self c.args.row c.in-Ok.ensures.added.0 was.stand c.in-Ok.ensures.added.1;
+      named = rows_still_named c.self.inside.rows c.add.new.self c.args.row c.in-Ok.ensures.added.0 was.named
+          c.requires.said;
+      stand = rows_still_stand c.self.inside.rows c.add.new.self c.args.row c.in-Ok.ensures.added.0 was.stand
+          c.in-Ok.ensures.added.1;
       nodes_are = was.nodes_are;
       nodes_once = was.nodes_once;
       nodes_few = was.nodes_few;

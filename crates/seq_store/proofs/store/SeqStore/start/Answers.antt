@@ -9,7 +9,8 @@ use Rattle.seq_store.proofs.store.SeqStore.start.Goals as goal
 pub returns-in-Ok-read_values-clause-numbers : goal.returns-in-Ok-read_values-clause-numbers
 returns-in-Ok-read_values-clause-numbers g c =
     let size : length c.read_values.new.marks ≡ c.args.lanes = grind (arith, common_steps) in
-    let items : take c.in-Ok.marks.len (c.read_values.new.marks ++ drop (length c.read_values.new.marks) c.in-Ok.marks.items) ≡ c.read_values.new.marks =
+    let items : take c.in-Ok.marks.len (c.read_values.new.marks
+    ++ drop (length c.read_values.new.marks) c.in-Ok.marks.items) ≡ c.read_values.new.marks =
     grind (arith, common_steps) in
     let numbers : Numbers = record { reserved = c.in-Ok-read_values.reserved; marks = c.read_values.new.marks } in
     ap (λ marks. let n : Numbers = record { reserved = c.in-Ok-read_values.reserved; marks = marks } in n) items
@@ -29,4 +30,5 @@ pub returns-in-Err-clause-unformatted : goal.returns-in-Err-clause-unformatted
 returns-in-Err-clause-unformatted g c = λ place.
     let size : length c.deref_mut.result.now ≡ c.args.lanes = grind (arith, common_steps) in
     tells_unformatted c.args.lanes (g.M.Nvm.state c.args.memory).octets c.in-Err.fault place
-    (λ p is. subst (λ lanes. IsUnformattedAt lanes (g.M.Nvm.state c.args.memory).octets p) size (c.in-Err.ensures.unformatted p (cc)))
+    (λ p is. subst (λ lanes. IsUnformattedAt lanes (g.M.Nvm.state c.args.memory).octets p) size
+    (c.in-Err.ensures.unformatted p (cc)))

@@ -7,4 +7,5 @@ pub returns-in_err-mark-clause-unformatted : goal.returns-in_err-mark-clause-unf
 returns-in_err-mark-clause-unformatted g c = λ place is.
     let p = err_from_is_err_and c.from_residual-in_err-mark.result c.from_residual-in_err-mark.ensures.1 in
     unformatted_here _ _ _ _ place _ c.loop-lane-test.true c.loop-lane.invariant.reserved c.loop-lane.invariant.each
-    (rw c.loop-lane.invariant.reads.octets at (c.in_err-mark.ensures.unformatted place (ap Err (sym p.2) ∙ sym p.1 ∙ is)))
+    (rw c.loop-lane.invariant.reads.octets at (c.in_err-mark.ensures.unformatted place
+    (ap Err (sym p.2) ∙ sym p.1 ∙ is)))

@@ -7,7 +7,9 @@ use Rattle.seq_store.proofs.store.start.read_values.Given as goal
 
 abbrev pub invariant-loop-lane : goal.invariant-loop-lane
 invariant-loop-lane g l = record {
-  reads : Reads None (g.M.Nvm.state l.fn.memory) (g.M.Nvm.state l.memory) (g.M.Nvm.images l.fn.memory) (g.M.Nvm.images l.memory);
+  reads : Reads None (g.M.Nvm.state l.fn.memory) (g.M.Nvm.state l.memory) (g.M.Nvm.images l.fn.memory)
+      (g.M.Nvm.images l.memory);
   reserved : value_of l.lanes (g.M.Nvm.state l.fn.memory).octets 0 ≡ Some l.reserved;
-  each : (k : ℕ) → k < l.lane → value_of l.lanes (g.M.Nvm.state l.fn.memory).octets (1 + k) ≡ Some (slice_index l.marks k);
+  each : (k : ℕ) → k < l.lane → value_of l.lanes (g.M.Nvm.state l.fn.memory).octets (1 + k)
+      ≡ Some (slice_index l.marks k);
 }
