@@ -51,7 +51,6 @@ impl Tables {
     /// The rows of `over`, and after them those key rows of `under` whose channel has no key in `over`, and those role
     /// rows whose channel has no role in `over`, in their order. The place in a fault is counted in that list. Where no
     /// row of either list says again what another of it says, a fault is never `Twice`.
-    #[tactic(auto, using(crate::proofs::Merging::look_ups_merge))]
     pub fn merge(alloc: Global, over: &[Row], under: &[Row]) -> Result<Tables, BuildFault>
         ensures rows { IfOk result (λ tables. tables ≡ merged over.now under.now) }
         ensures stand { IsOk result → build_fault (merged over.now under.now) ≡ None }
