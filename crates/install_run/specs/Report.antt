@@ -14,7 +14,6 @@ use Rattle.step_text.specs.Text.{step_text, node_text, values_text, all_kept_tex
 use Rattle.install_run.specs.Turn.{NodeAt}
 use Rattle.install_run.specs.Machine.{WorldAt, node_in}
 use Rattle.install_run.specs.Runs.{place_of, journal_of}
-use Rattle.install_run.specs.World.{WorldState}
 
 -- ---- steps
 
@@ -28,8 +27,15 @@ step_line number w None = []
 step_line number w (Some step) = step_text number (lanes_at w (place_of step.event)) step.outcome
 
 -- the line of the step at this place of the history; steps are told from 1
-abbrev pub line_of_step : WorldState → ℕ → List ℕ
-line_of_step s place = step_line (place + 1) s.world (slice_get s.history place)
+abbrev pub line_of_step : WorldAt → List Step → ℕ → List ℕ
+line_of_step w history place = step_line (place + 1) w (slice_get history place)
+
+abbrev pub numbered_line : WorldAt → ℕ × Step → List ℕ
+numbered_line w (number, step) = step_text number (lanes_at w (place_of step.event)) step.outcome
+
+-- the lines of all steps, in their order
+abbrev pub steps_text : WorldAt → List Step → List ℕ
+steps_text w history = flat_map (numbered_line w) (enumerate_from 1 history)
 
 -- ---- the end
 
@@ -55,9 +61,13 @@ node_end history (place, (row, n)) =
     ++ (objects_text n.standing ++ (all_kept_text n.config.lanes numbers.marks ++ image_text n.octets))
 
 -- all nodes, in their order
-abbrev pub nodes_text : WorldState → List ℕ
-nodes_text s = flat_map (node_end s.history) (enumerate_from 0 (zip s.nodes s.world.nodes))
+abbrev pub nodes_text : List NodeRow → WorldAt → List Step → List ℕ
+nodes_text nodes w history = flat_map (node_end history) (enumerate_from 0 (zip nodes w.nodes))
 
 -- and how many events and telegrams there were
-abbrev pub end_text : WorldState → List ℕ
-end_text s = nodes_text s ++ total_text (length s.history) (length s.world.air)
+abbrev pub end_text : List NodeRow → WorldAt → List Step → List ℕ
+end_text nodes w history = nodes_text nodes w history ++ total_text (length history) (length w.air)
+
+-- the whole report
+abbrev pub run_text : List NodeRow → WorldAt → List Step → List ℕ
+run_text nodes w history = steps_text w history ++ end_text nodes w history

@@ -18,7 +18,8 @@ impl World {
     #[tactic(auto, using(crate::proofs::Ending::nothing_printed))]
     pub fn print_step<S: Sink>(&self, step: usize, out: &mut S) -> Result<(), Failed>
         requires in_range { step < length self.now.history }
-        ensures text { Prints (S.octets out.old) (S.octets out.new) result (line_of_step self.now step) }
+        ensures text { Prints (S.octets out.old) (S.octets out.new) result
+            (line_of_step self.now.world self.now.history step) }
         ensures cause { HasCause (S.faults out.old) (S.faults out.new) result }
     {
         match self.steps.get(step) {
@@ -46,7 +47,8 @@ impl World {
     /// Writes the end of the report: each node with what its memory restores, the memories' octets, and how many events
     /// and telegrams there were.
     pub fn print_end<S: Sink>(&self, out: &mut S) -> Result<(), Failed>
-        ensures text { Prints (S.octets out.old) (S.octets out.new) result (end_text self.now) }
+        ensures text { Prints (S.octets out.old) (S.octets out.new) result
+            (end_text self.now.nodes self.now.world self.now.history) }
         ensures cause { HasCause (S.faults out.old) (S.faults out.new) result }
     {
         self.print_nodes(out)?;
@@ -55,7 +57,8 @@ impl World {
 
     #[tactic(auto, using(crate::proofs::Ending::nodes_printed))]
     fn print_nodes<S: Sink>(&self, out: &mut S) -> Result<(), Failed>
-        ensures text { Prints (S.octets out.old) (S.octets out.new) result (nodes_text self.now) }
+        ensures text { Prints (S.octets out.old) (S.octets out.new) result
+            (nodes_text self.now.nodes self.now.world self.now.history) }
         ensures cause { HasCause (S.faults out.old) (S.faults out.new) result }
     {
         print_places(&self.nodes, &self.places, out)
