@@ -15,6 +15,7 @@ use Rattle.node_core.specs.declared.outcome.Act.TheVariants as act
 use Rattle.step_text.specs.declared.outcome.StepOutcome.{StepOutcome}
 use Rattle.step_text.specs.declared.outcome.StepOutcome.TheVariants as outcome
 use Rattle.step_text.specs.declared.end.NodeEnd.{NodeEnd}
+use Rattle.step_text.specs.declared.summary.Tally.{Tally}
 
 -- ---- parts
 
@@ -127,3 +128,26 @@ values_text values = flat_map value_text (enumerate_from 0 values)
 
 abbrev pub all_kept_text : List Lane → List ℕ → List ℕ
 all_kept_text lanes marks = flat_map kept_text (zip lanes marks)
+
+-- ---- the summary of a run that was made
+
+-- which script was made, and with how many events
+abbrev pub made_text : ℕ → ℕ → List ℕ
+made_text number count = codes "make " ++ decimal number ++ 32 ∷ [] ++ decimal count ++ 10 ∷ []
+
+-- a word, and how often it came
+abbrev pub counted_text : List ℕ → ℕ → List ℕ
+counted_text word count = word ++ 32 ∷ [] ++ decimal count ++ 10 ∷ []
+
+abbrev pub tally_text : Tally → List ℕ
+tally_text tally =
+    counted_text (codes "telegrams") tally.telegrams ++ counted_text (codes "acted") tally.acted
+    ++ counted_text (codes "answered") tally.answered ++ counted_text (codes "synced") tally.synced
+    ++ counted_text (codes "refused") tally.refused ++ counted_text (codes "ignored") tally.ignored
+    ++ counted_text (codes "gone") tally.gone ++ counted_text (codes "off") tally.off
+    ++ counted_text (codes "cut") tally.cut
+
+-- a node: how long its journal is, and what its memory has reserved
+abbrev pub summary_node_text : List ℕ → ℕ → ℕ → List ℕ
+summary_node_text name journal reserved =
+    codes "node " ++ name ++ codes " journal " ++ decimal journal ++ codes " reserved " ++ decimal reserved ++ 10 ∷ []

@@ -8,9 +8,11 @@ mod end;
 mod line;
 mod outcome;
 mod put;
+mod summary;
 #[cfg(test)]
 mod tests;
 
 pub use end::{NodeEnd, print_image, print_kept, print_node, print_total, print_value};
 pub use line::print_step_line;
 pub use outcome::{Entry, Step, StepOutcome};
+pub use summary::{Tally, print_made, print_summary_node};
