@@ -3,3 +3,4 @@ mod Turning
 mod Stepping
 mod Beginning
 mod Ending
+mod Summing

@@ -10,3 +10,4 @@ pub mod World
 pub mod First
 pub mod Report
 pub mod Printing
+pub mod Summary

@@ -224,3 +224,42 @@ fn a_run_is_told_whole(rt: HostRuntime) -> Result<(), Fail> {
     assert_eq!(rt; out.bytes().len(), 1365);
     Ok(())
 }
+
+// Each outcome that a summary counts comes at least once, and four times a node is not running. Down is not counted:
+// the node was running. The lamp draws 101 for its answer, and so has 63 more reserved.
+#[test]
+fn a_summary_counts_each_outcome(rt: HostRuntime) -> Result<(), Fail> {
+    let nodes = "node push 1.1.7 1\n\
+         object push 1/2/3 t bits 01\n\
+         node lamp 1.1.9 101\n\
+         object lamp 1/2/3 w bits 00\n";
+    let events = "send push 0 write\ndeliver 1 lamp\ndeliver 1 lamp\n\
+         ask push 1.1.9 010203040506\ndeliver 2 push\ndeliver 2 lamp\ndeliver 3 push\ndeliver 3 push\n\
+         inject 2b00cc\ndeliver 4 lamp\n\
+         send push 0 write\ncut lamp 1 a5\ndeliver 5 lamp\ndeliver 5 lamp\n\
+         lose 5\ndeliver 5 push\nlose 5\n\
+         set push 0 bits:00\nset push 0 bits:01\n\
+         off push\noff push\nsend push 0 write\nset lamp 0 bits:00\n";
+    let mut text = String::new(rt.alloc());
+    for part in [HEAD, TOOL, nodes, events] {
+        text.push_str(part)?;
+    }
+    let world = played(rt.alloc(), &text)?;
+    let mut out = MemSink::new(rt.alloc(), 400)?;
+    world.print_summary(7, 23, &mut out)?;
+    let lines = "make 7 23
+telegrams 5
+acted 1
+answered 1
+synced 1
+refused 3
+ignored 1
+gone 2
+off 4
+cut 1
+node push journal 2 reserved 64
+node lamp journal 1 reserved 164
+";
+    assert_eq!(rt; out.bytes(), lines.as_bytes());
+    Ok(())
+}

@@ -5,6 +5,7 @@ ghost use Rattle.install_run.specs.First.{IsFirst};
 ghost use Rattle.install_run.specs.World.{IsStepped, HasRun, KeepsScript};
 
 mod print;
+mod summary;
 mod views;
 
 use crate::air::Telegram;

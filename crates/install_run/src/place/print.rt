@@ -114,7 +114,7 @@ impl Place {
 
     // The number that the memory restores as this value.
     #[tactic(auto, using(crate::proofs::Sounding::sized))]
-    fn stored(&self, value: usize) -> Number48
+    pub(crate) fn stored(&self, value: usize) -> Number48
         requires in_range { value ≤ length self.now.node.config.lanes }
         ensures { result ≡ unwrap_or (value_of (length self.now.node.config.lanes) self.now.node.octets value) 0 }
     {
