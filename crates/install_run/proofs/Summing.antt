@@ -22,7 +22,8 @@ summaries_from history k (row ∷ rows) (p ∷ places) journals =
     let rest : (i : ℕ) → i < length places → (place_in places i).journal ≡ journal_of ((k + 1) + i) history =
     λ i there. journals (suc i) (grind (arith, there)) ∙ ap (λ n. journal_of n history) (omega arith) in
     ap (λ journal. place_summary (row, record p { journal = journal }) ++ flat_map place_summary (zip rows places))
-    first ∙ ap (λ text. node_summary history (k, (row, p.node)) ++ text) (summaries_from history (k + 1) rows places rest)
+    first
+    ∙ ap (λ text. node_summary history (k, (row, p.node)) ++ text) (summaries_from history (k + 1) rows places rest)
 
 -- the nodes at their places are those of the history
 pub summaries_printed : {T E : Type 0} (nodes : List NodeRow) (places : List PlaceAt) (history : List Step)
