@@ -62,12 +62,21 @@ fn a_line_after_a_node_is_refused(rt: HostRuntime) -> Result<(), Fail> {
         (b"object a 1/2/3 - 2 00", Cause::Value),
         (b"object b 1/2/3 - bits 00", Cause::Name),
         (b"set a 64 bits:01", Cause::Number),
+        (b"set a 00 bits:01", Cause::Number),
         (b"set a 0 bits:40", Cause::Value),
         (b"send a 0 Read", Cause::Service),
         (b"tool-send a 1.1.2 00", Cause::Value),
+        (
+            b"tool-send a 1.1.2 0000000000000000000000000000000000",
+            Cause::Value,
+        ),
         (b"ask a 1.1.2 0102030405", Cause::Value),
+        (b"deliver 0 a", Cause::Number),
         (b"deliver 4294967296 a", Cause::Number),
         (b"inject", Cause::Words),
+        (b"inject 0", Cause::Value),
+        (b"off b", Cause::Name),
+        (b"cut a 0 00", Cause::Number),
         (b"cut a 1001 00", Cause::Number),
         (b"cut a 1 0", Cause::Value),
         (b"mark a walk:1.1.1 7", Cause::Lane),
@@ -102,6 +111,10 @@ fn a_line_out_of_order_and_one_said_twice_are_refused(rt: HostRuntime) {
             ScriptFault::Order(4),
         ),
         (
+            b"knx-script 1\nnode a 1.1.1 1\noff a\nmark a b",
+            ScriptFault::Line(4, Cause::Words),
+        ),
+        (
             b"knx-script 1\nnode a 1.1.1 1\nnode a 1.1.2 1",
             ScriptFault::Twice(3),
         ),
@@ -125,6 +138,40 @@ fn a_line_out_of_order_and_one_said_twice_are_refused(rt: HostRuntime) {
     ] {
         assert_eq!(rt; fault_of(read_script(rt.alloc(), text)), Some(fault));
     }
+}
+
+// A line that begins so, with one octet again and again behind it.
+fn long_line(alloc: Global, front: &[u8], octet: u8, count: u32) -> Result<Vec<u8>, Fail> {
+    let mut line = Vec::from_slice(alloc, front)?;
+    for _ in 0..count {
+        line.push(octet)?;
+    }
+    Ok(line)
+}
+
+#[test]
+fn a_line_of_1025_octets_and_a_frame_of_266_are_refused(rt: HostRuntime) -> Result<(), Fail> {
+    for (front, octet, count, cause) in [
+        (b"".as_slice(), b'#', 1_025, Cause::Long),
+        (b"inject ", b'0', 532, Cause::Value),
+    ] {
+        let line = long_line(rt.alloc(), front, octet, count)?;
+        assert!(rt; check(rt.alloc(), b"knx-script 1\n", &line, 2, cause)?);
+    }
+    Ok(())
+}
+
+#[test]
+fn a_mark_of_another_lane_or_past_the_numbers_is_refused(rt: HostRuntime) -> Result<(), Fail> {
+    let head =
+        b"knx-script 1\nrole 1/2/3 1.1.1 command\nnode a 1.1.9 1\nobject a 1/2/3 w bits 00\n";
+    for (line, cause) in [
+        (b"mark a run:1.1.2 7".as_slice(), Cause::Lane),
+        (b"mark a run:1.1.1 281474976710656", Cause::Number),
+    ] {
+        assert!(rt; check(rt.alloc(), head, line, 5, cause)?);
+    }
+    Ok(())
 }
 
 // A node of 65 lanes in line 67, an object in line 68, and then this line.
