@@ -1,10 +1,8 @@
 use crate::World;
-use key_tables::Lane;
-use knx_base::{IndAddr, MemSink};
+use knx_base::MemSink;
 use script_text::read_script;
 use std::alloc::Global;
 use std::test::Fail;
-use step_text::print_step_line;
 
 // A push button at 1.1.7 and a lamp at 1.1.9, both of the group 1/2/3; the lamp has a tool key, and the button may
 // manage it. Behind the head come the marks of a case and its events.
@@ -50,11 +48,9 @@ fn told(alloc: Global, parts: &[&str]) -> Result<MemSink, Fail> {
         text.push_str(part)?;
     }
     let world = played(alloc, &text)?;
-    let lanes = [Lane::Run(IndAddr(0x1107))];
     let mut out = MemSink::new(alloc, 10000)?;
-    let steps = world.history();
-    for place in 0..steps.len() {
-        print_step_line(place as u64 + 1, &lanes, &steps[place].outcome, &mut out)?;
+    for place in 0..world.history().len() {
+        world.print_step(place, &mut out)?;
     }
     Ok(out)
 }
@@ -72,7 +68,8 @@ fn a_telegram_acts_once(rt: HostRuntime) -> Result<(), Fail> {
          set lamp 0 bits:01\n\
          set lamp 1 bits:01\n\
          set lamp 0 01\n\
-         send lamp 0 read\n";
+         send lamp 0 read\n\
+         tool-send push 1.1.9 0380\n";
     let out = told(rt.alloc(), &[HEAD, NODES, events])?;
     let lines = "1 air 1 number 1
 2 acted number 1 lane run:1.1.7 GroupValue_Write object 0 value 01
@@ -86,6 +83,7 @@ fn a_telegram_acts_once(rt: HostRuntime) -> Result<(), Fail> {
 10 no-object
 11 size
 12 flag
+13 no-key
 ";
     assert_eq!(rt; out.bytes(), lines.as_bytes());
     Ok(())
@@ -144,6 +142,101 @@ fn an_answer_lets_a_node_go_on_above_the_mark(rt: HostRuntime) -> Result<(), Fai
 6 no-pending
 7 air 4 number 501
 8 acted number 501 lane run:1.1.7 GroupValue_Write object 0 value 01
+";
+    assert_eq!(rt; out.bytes(), lines.as_bytes());
+    Ok(())
+}
+
+// The button forgets the value that it was given and the challenge that it sent.
+#[test]
+fn a_start_begins_with_first_values_and_no_challenge(rt: HostRuntime) -> Result<(), Fail> {
+    let events = "ask push 1.1.9 010203040506\n\
+         set push 0 bits:00\n\
+         off push\n\
+         on push\n\
+         deliver 1 lamp\n\
+         deliver 2 push\n\
+         send push 0 write\n\
+         deliver 3 lamp\n";
+    let out = told(rt.alloc(), &[HEAD, TOOL, NODES, events])?;
+    let lines = "1 air 1 number 1
+2 set
+3 down
+4 on next 65 run:1.1.7=0 tool:1.1.9:1.1.9=0
+5 answered challenge 010203040506 reply 2
+6 no-pending
+7 air 3 number 65
+8 acted number 65 lane run:1.1.7 GroupValue_Write object 0 value 01
+";
+    assert_eq!(rt; out.bytes(), lines.as_bytes());
+    Ok(())
+}
+
+// Four devices with tool keys, each of which may ask two others; the first may manage the second. The last one has a
+// single number left.
+const FOUR: &str = "knx-script 1
+tool 1.1.1 31313131313131313131313131313131
+tool 1.1.2 32323232323232323232323232323232
+tool 1.1.3 33333333333333333333333333333333
+tool 1.1.4 34343434343434343434343434343434
+role tool:1.1.1 1.1.2 observe
+role tool:1.1.1 1.1.4 observe
+role tool:1.1.2 1.1.1 manage
+role tool:1.1.2 1.1.3 observe
+role tool:1.1.3 1.1.2 observe
+role tool:1.1.3 1.1.4 observe
+role tool:1.1.4 1.1.1 observe
+role tool:1.1.4 1.1.3 observe
+";
+
+const FOUR_NODES: &str = "node a 1.1.1 1
+node b 1.1.2 10
+node c 1.1.3 100
+node d 1.1.4 281474976710655
+mark b tool:1.1.2:1.1.1 500
+mark c tool:1.1.3:1.1.2 20
+";
+
+// The pairs of devices ask each other at the same time, and then across the pairs.
+#[test]
+fn four_nodes_synchronise(rt: HostRuntime) -> Result<(), Fail> {
+    let events = "ask a 1.1.2 010203040506\n\
+         ask c 1.1.4 0a0b0c0d0e0f\n\
+         deliver 1 d\n\
+         deliver 1 b\n\
+         deliver 2 d\n\
+         deliver 3 a\n\
+         deliver 4 c\n\
+         ask b 1.1.3 000000000001\n\
+         deliver 5 c\n\
+         ask b 1.1.1 000000000002\n\
+         deliver 6 b\n\
+         deliver 7 a\n\
+         deliver 8 b\n\
+         tool-send a 1.1.2 0380\n\
+         deliver 9 b\n\
+         ask d 1.1.1 000000000003\n\
+         ask c 1.1.4 000000000004\n\
+         deliver 10 d\n";
+    let out = told(rt.alloc(), &[FOUR, FOUR_NODES, events])?;
+    let lines = "1 air 1 number 1
+2 air 2 number 100
+3 ignored
+4 answered challenge 010203040506 reply 3
+5 answered challenge 0a0b0c0d0e0f reply 4
+6 synced number 10 kept 500 next 501
+7 synced number 281474976710655 kept 0 next 101
+8 air 5 number 11
+9 answered challenge 000000000001 reply 6
+10 air 7 number 12
+11 no-pending
+12 answered challenge 000000000002 reply 8
+13 synced number 501 kept 10 next 13
+14 air 9 number 502
+15 acted number 502 lane tool:1.1.2:1.1.1 Restart
+16 exhausted
+17 air 10 number 102
+18 answered challenge 000000000004 reply none
 ";
     assert_eq!(rt; out.bytes(), lines.as_bytes());
     Ok(())
