@@ -1,5 +1,6 @@
 //! Calls of the node in a slot. One that does not run makes none.
 ghost use Rattle.std.specs.Prelude.{◌≡◌, ◌^◌, ◌<◌, ◌-◌, ◌+◌, ◌≤◌, length, option_map, []};
+ghost use Rattle.std.specs.Result.{result_err};
 ghost use Rattle.node_core.specs.Sending.{send_transition, tool_transition, ask_transition, set_transition};
 ghost use Rattle.install_run.specs.Turn.{call_turn, receive_turn, set_told, send_told, receive_told, reply_told, act_told, stop_outcome};
 ghost use Rattle.install_run.specs.Counts.{HasStopCause};
@@ -22,16 +23,9 @@ impl Slot {
         ensures cause { HasStopCause result (counts_at self.old) (counts_at self.new) }
         ensures sound { IsSound (slot_at self.old) → IsSound (slot_at self.new) }
     {
-        let Slot::Started(node) = self else {
-            return StepOutcome::Off;
-        };
-        if !node.is_running() {
-            return StepOutcome::Off;
-        }
-        match node.set(object, value) {
-            Ok(()) => StepOutcome::Set,
-            Err(SetFault::NoObject) => StepOutcome::NoObject,
-            Err(SetFault::Size) => StepOutcome::Size,
+        match self {
+            Slot::Started(node) if node.is_running() => set_told(node.set(object, value)),
+            _ => StepOutcome::Off,
         }
     }
 
@@ -51,13 +45,13 @@ impl Slot {
         ensures cause { HasStopCause result (counts_at self.old) (counts_at self.new) }
         ensures sound { IsSound (slot_at self.old) → IsSound (slot_at self.new) }
     {
-        let Slot::Started(node) = self else {
-            return StepOutcome::Off;
-        };
-        if !node.is_running() {
-            return StepOutcome::Off;
+        match self {
+            Slot::Started(node) if node.is_running() => send_told(
+                count,
+                node.send(object, service, out),
+            ),
+            _ => StepOutcome::Off,
         }
-        send_told(count, node.send(object, service, out))
     }
 
     // The node sends an APDU to a device.
@@ -78,13 +72,13 @@ impl Slot {
         ensures cause { HasStopCause result (counts_at self.old) (counts_at self.new) }
         ensures sound { IsSound (slot_at self.old) → IsSound (slot_at self.new) }
     {
-        let Slot::Started(node) = self else {
-            return StepOutcome::Off;
-        };
-        if !node.is_running() {
-            return StepOutcome::Off;
+        match self {
+            Slot::Started(node) if node.is_running() => send_told(
+                count,
+                node.send_tool(to, apdu, out),
+            ),
+            _ => StepOutcome::Off,
         }
-        send_told(count, node.send_tool(to, apdu, out))
     }
 
     // The node asks a device for a synchronisation.
@@ -103,13 +97,13 @@ impl Slot {
         ensures cause { HasStopCause result (counts_at self.old) (counts_at self.new) }
         ensures sound { IsSound (slot_at self.old) → IsSound (slot_at self.new) }
     {
-        let Slot::Started(node) = self else {
-            return StepOutcome::Off;
-        };
-        if !node.is_running() {
-            return StepOutcome::Off;
+        match self {
+            Slot::Started(node) if node.is_running() => send_told(
+                count,
+                node.ask(to, challenge, out),
+            ),
+            _ => StepOutcome::Off,
         }
-        send_told(count, node.ask(to, challenge, out))
     }
 
     // The octets of a telegram reach the node; there are none where it is gone.
@@ -137,6 +131,17 @@ impl Slot {
             return StepOutcome::Gone;
         };
         receive_told(count, node.receive(octets, out))
+    }
+}
+
+// What came of a value that was set.
+fn set_told(set: Result<(), SetFault>) -> StepOutcome
+    ensures told { result ≡ set_told (result_err set) }
+{
+    match set {
+        Ok(()) => StepOutcome::Set,
+        Err(SetFault::NoObject) => StepOutcome::NoObject,
+        Err(SetFault::Size) => StepOutcome::Size,
     }
 }
 
