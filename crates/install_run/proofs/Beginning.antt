@@ -6,9 +6,7 @@ use Rattle.std.specs.Prelude.{not, map, position, option_map, unwrap_or, if◌th
 use Rattle.std.specs.Option.{is_some, option_or}
 use Rattle.std.proofs.lemmas.Bool.Decides.{nat_tests}
 use Rattle.key_tables.specs.declared.types.Row.{Row}
-use Rattle.key_tables.specs.Build.{build_fault}
 use Rattle.key_tables.specs.Lanes.{is_any}
-use Rattle.group_objects.specs.Objects.{objects_fault}
 use Rattle.seq_store.specs.Layout.{most_lanes}
 use Rattle.node_core.specs.Config.{configured, config_fault, lanes_fault, IsConfigFault}
 use Rattle.node_core.specs.declared.fault.ConfigFault.{ConfigFault}
@@ -123,7 +121,7 @@ no_entries rows [] place = refl
 no_entries rows (node ∷ nodes) zero = refl
 no_entries rows (node ∷ nodes) (suc place) = no_entries rows nodes place
 
-first_nodes : (rows : List Row) (nodes : List NodeRow) → map node_of (map (first_place rows) nodes)
+pub first_nodes : (rows : List Row) (nodes : List NodeRow) → map node_of (map (first_place rows) nodes)
     ≡ map (first_node rows) nodes
 first_nodes rows [] = refl
 first_nodes rows (node ∷ nodes) = ap (λ rest. first_node rows node ∷ rest) (first_nodes rows nodes)

@@ -20,7 +20,6 @@ use Rattle.install_run.specs.Printing.{place_end, ends_of}
 use Rattle.install_run.specs.Report.{node_end}
 use Rattle.install_run.specs.Runs.{journal_of}
 use Rattle.seq_store.specs.Layout.{value_of}
-use Rattle.seq_store.specs.Laws.{restore}
 use Rattle.seq_store.specs.Runs.{marks_from}
 
 -- the next value of those that are left, with its place

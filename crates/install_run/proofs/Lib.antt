@@ -2,5 +2,15 @@ mod Sounding
 mod Turning
 mod Stepping
 mod Beginning
+mod Climbing
+mod Drawing
+mod Steps
+mod Originating
+mod Rising
+mod Marking
+mod Journalling
+mod Delivering
+mod Valuing
+mod Lawful
 mod Ending
 mod Summing

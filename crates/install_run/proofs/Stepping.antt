@@ -1,5 +1,5 @@
 -- What the turn of one place makes of the whole installation, and what a step makes of the history.
-use Rattle.std.proofs.Common.{◌≡◌, ◌≢◌, ℕ, ◌+◌, ◌<◌, ◌≤◌, List, [], ◌∷◌, ◌++◌, length, map, get_or, take, Bool, true, false, Option, Some, None, refl, sym, ap, ◌∙◌, subst, append_assoc, add-one, arith, length-append}
+use Rattle.std.proofs.Common.{◌≡◌, ◌≢◌, ℕ, ◌+◌, ◌<◌, ◌≤◌, List, [], ◌∷◌, ◌++◌, length, map, get_or, take, Bool, true, false, Option, Some, refl, sym, ap, ◌∙◌, subst, append_assoc, add-one, arith, length-append}
 use Rattle.std.specs.Prelude.{◌==◌, set, unwrap_or, if◌then◌else◌}
 use Rattle.std.proofs.lemmas.Bool.Decides.{nat_tests}
 use Rattle.std.proofs.lemmas.List.{append-nil, length-set, map-set, get_or-map, get_or-set_same, get_or-set_other, get_or_default}
@@ -13,17 +13,17 @@ use Rattle.script_text.specs.declared.node_row.NodeRow.{NodeRow}
 use Rattle.step_text.specs.declared.outcome.Entry.{Entry}
 use Rattle.step_text.specs.declared.outcome.Step.{Step}
 use Rattle.step_text.specs.declared.outcome.StepOutcome.{StepOutcome}
-use Rattle.install_run.specs.Turn.{NodeAt}
 use Rattle.install_run.specs.Machine.{TelegramAt, WorldAt, has_telegram, telegrams_of, turn_of, node_in, no_node}
 use Rattle.install_run.specs.Runs.{place_of, is_at, entries_of, journal_of, after, step_of, world_after, history_of}
-use Rattle.install_run.specs.Counts.{Counts, HasStopCause}
+use Rattle.install_run.specs.Counts.{HasStopCause}
+use Rattle.install_run.specs.Holding.{IsHeld}
 use Rattle.install_run.specs.Taking.{IsTakenIn, IsTakenBy}
-use Rattle.install_run.specs.Place.{PlaceAt, no_place, place_in, node_of, counts_of, world_in, entries_at, IsTurned, HasJournals}
+use Rattle.install_run.specs.Place.{PlaceAt, no_place, place_in, node_of, counts_of, world_in, entries_at, IsTurned}
 use Rattle.install_run.specs.World.{WorldState, world_state, counts_at, IsWorld, IsStepped, HasRun}
 
 -- ---- one place
 
-same_place : {a b : ℕ} → Some a ≡ Some b → a ≡ b
+pub same_place : {a b : ℕ} → Some a ≡ Some b → a ≡ b
 same_place is = ap (λ o. unwrap_or o 0) is
 
 -- the journal at a place, where the entries were added to this one's
@@ -47,10 +47,10 @@ few_more false out = omega arith
 pub node_turned : (e : Event) (places : List PlaceAt) (air air' : List TelegramAt) (place : ℕ) (said : StepOutcome)
     (new : PlaceAt) (out : List ℕ)
     → place < length places → place_of e ≡ Some place → IsTakenBy e air (place_in places place).node said new.node out
-    → HasStopCause said (place_in places place).counts new.counts → new.journal ≡ (place_in places place).journal
-    ++ entries_of e said
+    → HasStopCause said (place_in places place).counts new.counts → IsHeld e air (place_in places place).node new.node
+    → new.journal ≡ (place_in places place).journal ++ entries_of e said
     → air' ≡ air ++ telegrams_of (has_telegram said) out → IsTurned e places air said (set places place new) air'
-node_turned e places air air' place said new out in_range at taken cause noted sent =
+node_turned e places air air' place said new out in_range at taken cause held noted sent =
     let w = world_in places air in
     let here : node_in w place ≡ (place_in places place).node =
     get_or-map node_of places place no_place no_node in_range in
@@ -64,6 +64,11 @@ node_turned e places air air' place said new out in_range at taken cause noted s
           subst (λ q. HasStopCause said (place_in places q).counts (place_in (set places place new) q).counts) q_is
           (subst (λ (p : PlaceAt). HasStopCause said (place_in places place).counts p.counts)
           (sym (get_or-set_same places place new no_place in_range)) cause);
+      held = λ q at_q.
+          let q_is : place ≡ q = same_place (sym at ∙ at_q) in
+          subst (λ q. IsHeld e air (place_in places q).node (place_in (set places place new) q).node) q_is
+          (subst (λ (p : PlaceAt). IsHeld e air (place_in places place).node p.node)
+          (sym (get_or-set_same places place new no_place in_range)) held);
       journals = λ q below. journal_by q place places new (entries_of e said) (q == place) refl in_range noted
           ∙ ap (λ (o : Option ℕ). (place_in places q).journal ++ (if is_at q o then entries_of e said else []))
           (sym at);
@@ -119,12 +124,12 @@ stepped rows nodes e places new air air' history said turned = record {
 
 -- ---- steps in turn
 
-after-more : (events : List Event) (e : Event) (w : WorldAt)
+pub after-more : (events : List Event) (e : Event) (w : WorldAt)
     → world_after (events ++ e ∷ []) w ≡ after e (world_after events w)
 after-more [] e w = refl
 after-more (first ∷ events) e w = after-more events e (after first w)
 
-history-more : (events : List Event) (e : Event) (w : WorldAt) → history_of (events ++ e ∷ []) w ≡ history_of events w
+pub history-more : (events : List Event) (e : Event) (w : WorldAt) → history_of (events ++ e ∷ []) w ≡ history_of events w
     ++ step_of e (world_after events w) ∷ []
 history-more [] e w = refl
 history-more (first ∷ events) e w = ap (λ rest. step_of first w ∷ rest) (history-more events e (after first w))
@@ -157,14 +162,15 @@ event_in_range nodes (event.Fault node write torn) place is at = subst (λ n. n 
 pub at_place : (e : Event) (places : List PlaceAt) (air air' : List TelegramAt) (place : ℕ) (said : StepOutcome)
     (d new : PlaceAt) (out : List ℕ)
     → place < length places → place_of e ≡ Some place → IsTakenBy e air (get_or places place d).node said new.node out
-    → HasStopCause said (get_or places place d).counts new.counts → new.journal ≡ (get_or places place d).journal
-    ++ entries_of e said
+    → HasStopCause said (get_or places place d).counts new.counts → IsHeld e air (get_or places place d).node new.node
+    → new.journal ≡ (get_or places place d).journal ++ entries_of e said
     → air' ≡ air ++ telegrams_of (has_telegram said) out → IsTurned e places air said (set places place new) air'
-at_place e places air air' place said d new out in_range at taken cause noted sent =
+at_place e places air air' place said d new out in_range at taken cause held noted sent =
     let here : get_or places place d ≡ place_in places place = get_or_default places place d no_place in_range in
     node_turned e places air air' place said new out in_range at
     (subst (λ (p : PlaceAt). IsTakenBy e air p.node said new.node out) here taken)
     (subst (λ (p : PlaceAt). HasStopCause said p.counts new.counts) here cause)
+    (subst (λ (p : PlaceAt). IsHeld e air p.node new.node) here held)
     (subst (λ (p : PlaceAt). new.journal ≡ p.journal ++ entries_of e said) here noted) sent
 
 -- ---- a step, over what the code has at hand
@@ -185,20 +191,6 @@ step_is rows nodes e places seen new back air seen_air air' history seen_history
     = (λ i. world_state rows nodes (sym back_is i) air' (sym noted i)) in
     subst (λ w. IsStepped e w (world_state rows nodes back air' history')) first_is
     (subst (λ w. IsStepped e first w) last_is (stepped rows nodes e seen new seen_air air' seen_history said turned))
-
-pub world_is : (e : Event) (places seen new back : List PlaceAt) (air seen_air air' : List TelegramAt)
-    (history seen_history history' : List Step) (said : StepOutcome)
-    → IsWorld places air history → seen ≡ places → seen_air ≡ air → seen_history ≡ history
-    → IsTurned e seen seen_air said new air' → back ≡ new
-    → history' ≡ seen_history ++ record { event = e; outcome = said } ∷ [] → IsWorld back air' history'
-world_is e places seen new back air seen_air air' history seen_history history' said before places_is air_is history_is
-    turned back_is noted =
-    let now : IsWorld seen seen_air seen_history
-    = subst (λ h. IsWorld seen seen_air h) (sym history_is) (subst (λ a. IsWorld seen a history) (sym air_is)
-    (subst (λ p. IsWorld p air history) (sym places_is) before)) in
-    subst (λ h. IsWorld back air' h) (sym noted)
-    (subst (λ p. IsWorld p air' (seen_history ++ record { event = e; outcome = said } ∷ [])) (sym back_is)
-    (stays_world e seen new seen_air air' seen_history said now turned))
 
 -- ---- events of a list
 

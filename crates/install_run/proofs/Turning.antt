@@ -1,23 +1,13 @@
 -- What a node makes of its event, in the words of the whole installation: one lemma for each event.
-use Rattle.std.proofs.Common.{◌≡◌, ℕ, List, [], ◌∷◌, ◌++◌, map, Bool, true, false, Option, Some, None, refl, sym, ap, ◌∙◌, subst}
-use Rattle.std.specs.Prelude.{◌+◌, length, set, get_or, option_to_list, unwrap_or}
-use Rattle.std.specs.Option.{is_some}
+use Rattle.std.proofs.Common.{◌≡◌, ℕ, List, [], ◌++◌, Some, sym, ap, ◌∙◌}
+use Rattle.std.specs.Prelude.{length, set, unwrap_or}
 use Rattle.knx_base.specs.declared.address.IndAddr.{IndAddr}
-use Rattle.nvm_model.specs.SimNvm.{with_cut, with_fault}
-use Rattle.nvm_model.specs.declared.fault.NvmFault.{NvmFault}
-use Rattle.nvm_model.specs.declared.fault.NvmFault.TheVariants as nvm
-use Rattle.nvm_model.specs.Plan.{Struck}
-use Rattle.group_objects.specs.Value.{ObjectValue}
 use Rattle.group_objects.specs.declared.service.SendService.{SendService}
 use Rattle.node_core.specs.Node.{handed}
-use Rattle.node_core.specs.Standing.{Standing}
-use Rattle.node_core.specs.Transition.{Transition}
-use Rattle.node_core.specs.Sending.{send_transition, tool_transition, ask_transition, set_transition}
-use Rattle.node_core.specs.Receiving.{receive_transition}
-use Rattle.script_text.specs.declared.event.Event.{Event}
+use Rattle.node_core.specs.Sending.{send_transition, tool_transition, ask_transition}
 use Rattle.script_text.specs.declared.event.Event.TheVariants as event
 use Rattle.step_text.specs.declared.outcome.StepOutcome.{StepOutcome}
-use Rattle.install_run.specs.Turn.{NodeAt, Turn, struck_by, turn_by, call_turn, set_told, send_told, receive_told, receive_turn, off_turn, on_turn, arm_turn}
+use Rattle.install_run.specs.Turn.{NodeAt, Turn, call_turn, send_told, receive_turn}
 use Rattle.install_run.specs.Machine.{TelegramAt, WorldAt, has_telegram, telegrams_of, telegram_in, heard, node_in, at_node}
 use Rattle.install_run.specs.Slot.{IsTaken}
 use Rattle.install_run.specs.Taking.{IsTakenIn, IsTakenBy}

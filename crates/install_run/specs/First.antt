@@ -1,5 +1,5 @@
 -- An installation as a script begins. This is statement.
-use Rattle.std.specs.Prelude.{◌≡◌, ℕ, ◌-◌, List, [], length, map, true, false, Some, None}
+use Rattle.std.specs.Prelude.{◌≡◌, ◌-◌, List, [], map, true, false, Some, None}
 use Rattle.std.specs.List.{list_any}
 use Rattle.key_tables.specs.declared.types.Row.{Row}
 use Rattle.key_tables.specs.Build.{build_fault}

@@ -8,6 +8,7 @@ use Rattle.install_run.specs.Turn.{NodeAt}
 use Rattle.install_run.specs.Machine.{TelegramAt, WorldAt, turn_of, no_node}
 use Rattle.install_run.specs.Runs.{place_of, is_at, entries_of, journal_of}
 use Rattle.install_run.specs.Counts.{Counts, no_counts, HasStopCause}
+use Rattle.install_run.specs.Holding.{IsHeld}
 
 -- a node with its memory, the counts of the memory, and the journal of the node
 pub record PlaceAt : Type 0 where
@@ -41,6 +42,7 @@ pub record IsTurned (e : Event) (old : List PlaceAt) (air : List TelegramAt) (sa
   pub world_is : world_in new air' ≡ (turn_of e (world_in old air)).world
   pub cause : (place : ℕ) → place_of e ≡ Some place → HasStopCause said (place_in old place).counts
       (place_in new place).counts
+  pub held : (place : ℕ) → place_of e ≡ Some place → IsHeld e air (place_in old place).node (place_in new place).node
   pub journals : (place : ℕ) → place < length old
       → (place_in new place).journal ≡ (place_in old place).journal ++ entries_at place e said
   pub size : length new ≡ length old

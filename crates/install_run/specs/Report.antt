@@ -1,5 +1,5 @@
 -- The report of a run: the line of each step, and the end. This is statement.
-use Rattle.std.specs.Prelude.{ℕ, ◌+◌, List, [], ◌∷◌, ◌++◌, length, slice_get, take, Option, Some, None}
+use Rattle.std.specs.Prelude.{ℕ, ◌+◌, List, [], ◌++◌, length, slice_get, take, Option, Some, None}
 use Rattle.std.specs.Option.{is_some}
 use Rattle.std.specs.List.{zip, flat_map, enumerate_from}
 use Rattle.seq_store.specs.Runs.{numbers_in}
@@ -7,7 +7,6 @@ use Rattle.group_objects.specs.Value.{ObjectValue}
 use Rattle.group_objects.specs.Objects.{most_rows}
 use Rattle.key_tables.specs.declared.types.Lane.{Lane}
 use Rattle.node_core.specs.Standing.{Standing}
-use Rattle.script_text.specs.declared.event.Event.{Event}
 use Rattle.script_text.specs.declared.node_row.NodeRow.{NodeRow}
 use Rattle.step_text.specs.declared.outcome.Step.{Step}
 use Rattle.step_text.specs.Text.{step_text, node_text, values_text, all_kept_text, image_text, total_text}

@@ -1,5 +1,5 @@
 -- Lists of events: what an installation is after them, and their history. This is statement.
-use Rattle.std.specs.Prelude.{ℕ, ◌==◌, ◌≤◌, ◌<◌, List, [], ◌∷◌, ◌++◌, Bool, true, false, Option, Some, None, if◌then◌else◌}
+use Rattle.std.specs.Prelude.{ℕ, ◌==◌, List, [], ◌∷◌, ◌++◌, Bool, false, Option, Some, None, if◌then◌else◌}
 use Rattle.group_objects.specs.Value.{ObjectValue}
 use Rattle.script_text.specs.declared.event.Event.{Event}
 use Rattle.script_text.specs.declared.event.Event.TheVariants as event
@@ -8,7 +8,7 @@ use Rattle.step_text.specs.declared.outcome.Entry.TheVariants as entry
 use Rattle.step_text.specs.declared.outcome.Step.{Step}
 use Rattle.step_text.specs.declared.outcome.StepOutcome.{StepOutcome}
 use Rattle.step_text.specs.declared.outcome.StepOutcome.TheVariants as outcome
-use Rattle.install_run.specs.Machine.{WorldAt, WorldTurn, turn_of}
+use Rattle.install_run.specs.Machine.{WorldAt, turn_of}
 
 -- ---- events in turn
 

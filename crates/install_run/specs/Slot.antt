@@ -1,5 +1,5 @@
 -- What the place of a node shows. This is statement.
-use Rattle.std.specs.Prelude.{◌≡◌, ℕ, List, [], length, Bool, true, false, Option, Some, None, unwrap_or, if◌then◌else◌}
+use Rattle.std.specs.Prelude.{◌≡◌, ℕ, List, [], length, Bool, true, false, Option, Some, None, unwrap_or}
 use Rattle.nvm_model.specs.Nvm.{State}
 use Rattle.nvm_model.specs.Plan.{unarmed}
 use Rattle.nvm_model.specs.SimNvm.{sim_state}

@@ -5,6 +5,7 @@ ghost use Rattle.node_core.specs.Sending.{send_transition, tool_transition, ask_
 ghost use Rattle.install_run.specs.Turn.{call_turn, receive_turn, set_told, send_told, receive_told, reply_told, act_told, stop_outcome};
 ghost use Rattle.install_run.specs.Counts.{HasStopCause};
 ghost use Rattle.install_run.specs.Slot.{slot_at, counts_at, IsTaken, IsSound};
+ghost use Rattle.install_run.specs.Holding.{heard_raises, RestoresRaised};
 
 use crate::slot::Slot;
 use group_objects::{SendService, SetFault, Value};
@@ -44,6 +45,8 @@ impl Slot {
             result (slot_at self.new) out.new }
         ensures cause { HasStopCause result (counts_at self.old) (counts_at self.new) }
         ensures sound { IsSound (slot_at self.old) → IsSound (slot_at self.new) }
+        ensures raised { RestoresRaised (λ c s. (send_transition c s object service).raises) (slot_at self.old)
+            (slot_at self.new) }
     {
         match self {
             Slot::Started(node) if node.is_running() => send_told(
@@ -71,6 +74,8 @@ impl Slot {
             result (slot_at self.new) out.new }
         ensures cause { HasStopCause result (counts_at self.old) (counts_at self.new) }
         ensures sound { IsSound (slot_at self.old) → IsSound (slot_at self.new) }
+        ensures raised { RestoresRaised (λ c s. (tool_transition c s to apdu.now).raises) (slot_at self.old)
+            (slot_at self.new) }
     {
         match self {
             Slot::Started(node) if node.is_running() => send_told(
@@ -96,6 +101,8 @@ impl Slot {
             result (slot_at self.new) out.new }
         ensures cause { HasStopCause result (counts_at self.old) (counts_at self.new) }
         ensures sound { IsSound (slot_at self.old) → IsSound (slot_at self.new) }
+        ensures raised { RestoresRaised (λ c s. (ask_transition c s to challenge).raises) (slot_at self.old)
+            (slot_at self.new) }
     {
         match self {
             Slot::Started(node) if node.is_running() => send_told(
@@ -120,6 +127,8 @@ impl Slot {
             (slot_at self.new) out.new }
         ensures cause { HasStopCause result (counts_at self.old) (counts_at self.new) }
         ensures sound { IsSound (slot_at self.old) → IsSound (slot_at self.new) }
+        ensures raised { RestoresRaised (λ c s. heard_raises c s (option_map (λ octets. octets.now) octets.entry)) (slot_at self.old)
+            (slot_at self.new) }
     {
         let Slot::Started(node) = self else {
             return StepOutcome::Off;

@@ -6,6 +6,7 @@
 mod air;
 mod call;
 mod first;
+mod law;
 mod octets;
 mod place;
 mod power;
@@ -16,5 +17,6 @@ mod tests;
 mod turn;
 mod world;
 
+pub use law::deliverable_is_acted_on;
 pub use step_text::{Entry, Step, StepOutcome};
 pub use world::World;

@@ -6,6 +6,7 @@ ghost use Rattle.script_text.specs.Script.{IsNode};
 ghost use Rattle.install_run.specs.First.{first_place, RowsStand};
 ghost use Rattle.install_run.specs.Runs.{place_of, entries_of};
 ghost use Rattle.install_run.specs.Taking.{IsSomeEvent, IsTakenBy};
+ghost use Rattle.install_run.specs.Holding.{IsHeld};
 
 pub(crate) mod print;
 
@@ -75,6 +76,7 @@ impl Place {
             out.new) }
         ensures cause { IfOk result (λ outcome. HasStopCause outcome self.old.counts self.new.counts) }
         ensures journal { IfOk result (λ outcome. self.new.journal ≡ self.old.journal ++ entries_of event.now outcome) }
+        ensures held { IfOk result (λ outcome. IsHeld event.now air.now self.old.node self.new.node) }
         ensures unchanged { OnErr result (self.new ≡ self.old) }
     {
         self.journal.reserve(1)?;

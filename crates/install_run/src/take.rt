@@ -5,6 +5,7 @@ ghost use Rattle.install_run.specs.Runs.{place_of};
 ghost use Rattle.install_run.specs.Counts.{HasStopCause};
 ghost use Rattle.install_run.specs.Slot.{slot_at, counts_at, IsSound};
 ghost use Rattle.install_run.specs.Taking.{IsSomeEvent, IsTakenBy};
+ghost use Rattle.install_run.specs.Holding.{IsHeld};
 
 use crate::air::{Telegram, heard};
 use crate::slot::Slot;
@@ -34,6 +35,7 @@ impl Slot {
         ensures unchanged { OnErr result (slot_at self.new ≡ slot_at self.old) }
         ensures uncounted { OnErr result (counts_at self.new ≡ counts_at self.old) }
         ensures sound { IsSound (slot_at self.new) }
+        ensures held { IfOk result (λ outcome. IsHeld event.now air.now (slot_at self.old) (slot_at self.new)) }
     {
         let count = air.len() as u32;
         match *event {

@@ -2,8 +2,10 @@ ghost use Rattle.std.specs.Prelude.{◌≡◌, ◌<◌, ◌-◌, ◌+◌, ◌^�
 ghost use Rattle.std.specs.List.{All};
 ghost use Rattle.script_text.specs.Script.{IsEvent};
 ghost use Rattle.install_run.specs.First.{IsFirst};
+ghost use Rattle.install_run.specs.Laws.{KeepsLaws};
 ghost use Rattle.install_run.specs.World.{IsStepped, HasRun, KeepsScript};
 
+mod laws;
 mod print;
 mod summary;
 mod views;
@@ -34,13 +36,14 @@ pub struct World {
 }
 
 impl Model for World {
-    ghost use Rattle.install_run.specs.World.{WorldState, world_state, IsWorld};
+    ghost use Rattle.install_run.specs.World.{WorldState, world_state};
+    ghost use Rattle.install_run.specs.Origin.{IsRun};
 
     ghost Value = { WorldState };
 
     ghost view = { λ w. world_state w.rows.items w.nodes.items w.places.items w.air.items w.steps.items };
 
-    ghost invariant = { λ w. IsWorld w.places.items w.air.items w.steps.items };
+    ghost invariant = { λ w. IsRun w.rows.items w.nodes.items w.places.items w.air.items w.steps.items };
 }
 
 impl World {
@@ -88,10 +91,12 @@ impl World {
         ensures run { OnOk result (HasRun events.now self.old self.new) }
         ensures begun { OnErr result ((taken : ℕ) × HasRun (take taken events.now) self.old self.new) }
         ensures script { KeepsScript self.old self.new }
+        ensures laws { OnOk result (KeepsLaws self.new) }
     {
         for event in events {
             self.step(event)?;
         }
+        self.keeps_laws();
         Ok(())
     }
 }

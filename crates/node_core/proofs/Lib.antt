@@ -2,6 +2,6 @@ mod Starting
 mod Keeping
 mod Entitled
 mod Causes
-mod Firsts
+pub mod Firsts
 mod Raising
 mod Acting

@@ -1,4 +1,4 @@
-use Rattle.std.proofs.Common.{◌≡◌, ◌≤◌, length, take}
+use Rattle.std.proofs.Common.{◌≡◌, take}
 use Rattle.node_core.specs.Node.{node_state}
 use Rattle.install_run.proofs.power.marks_of.Given as goal
 

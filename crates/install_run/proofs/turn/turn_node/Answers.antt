@@ -1,6 +1,7 @@
 use Rattle.std.proofs.Common.{List, length, get_or, subst}
 use Rattle.install_run.specs.Machine.{TelegramAt}
 use Rattle.install_run.specs.Taking.{IsTakenBy}
+use Rattle.install_run.specs.Holding.{IsHeld}
 use Rattle.install_run.proofs.Stepping.{event_in_range, at_place}
 use Rattle.install_run.proofs.turn.turn_node.Goals as goal
 
@@ -15,4 +16,8 @@ returns-clause-turned c =
     (get_or c.args.places.now c.args.place c.index-places-place.result).node c.in_ok-outcome.outcome
     c.take.new.self.node c.take.new.out)
     c.deref.ensures.value c.in_ok-outcome.ensures.taken)
-    c.in_ok-outcome.ensures.cause c.in_ok-outcome.ensures.journal c.put.ensures.sent
+    c.in_ok-outcome.ensures.cause
+    (subst (λ (air : List TelegramAt). IsHeld c.args.event.now air
+    (get_or c.args.places.now c.args.place c.index-places-place.result).node c.take.new.self.node)
+    c.deref.ensures.value c.in_ok-outcome.ensures.held)
+    c.in_ok-outcome.ensures.journal c.put.ensures.sent

@@ -3,7 +3,6 @@ use Rattle.nvm_model.specs.SimNvm.{sim_state}
 use Rattle.node_core.specs.Node.{config_state, node_state}
 use Rattle.node_core.specs.Standing.{ConfigState}
 use Rattle.install_run.proofs.Beginning.{formatted_sound, first_is}
-use Rattle.install_run.specs.Place.{PlaceAt}
 use Rattle.install_run.proofs.place.Place.first.Goals as goal
 
 pub started-requires-clause-sound : goal.started-requires-clause-sound

@@ -1,4 +1,4 @@
-use Rattle.std.proofs.Common.{rules, arith}
+use Rattle.std.proofs.Common.{rules}
 use Rattle.step_text.proofs.Pieces.{one_more, one_failed, all_printed}
 use Rattle.install_run.proofs.Ending.{next_kept, none_kept_left}
 use Rattle.install_run.proofs.place.Place.print_all_kept.Goals as goal

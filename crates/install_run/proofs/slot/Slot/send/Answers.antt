@@ -1,7 +1,19 @@
+use Rattle.std.proofs.Common.{rules, subst, sym}
+use Rattle.install_run.specs.Holding.{RestoresRaised}
+use Rattle.install_run.specs.Slot.{slot_at, at_node_state}
+use Rattle.install_run.specs.declared.slot.Slot.{Slot}
+use Rattle.node_core.specs.Sending.{send_transition}
 use Rattle.node_core.specs.Node.{node_state}
-use Rattle.install_run.proofs.Sounding.{sound_call}
+use Rattle.install_run.proofs.Sounding.{sound_call, raised_call}
 use Rattle.install_run.proofs.slot.Slot.send.Goals as goal
 
 pub returns-in-Started-clause-sound : goal.returns-in-Started-clause-sound
 returns-in-Started-clause-sound c = λ _. sound_call _ (node_state c.in-Started.node) (node_state c.send.new.self)
     c.in-Started.node.lanes c.send.ensures.does.config c.send.ensures.runs.now
+
+pub returns-clause-raised : goal.returns-clause-raised
+returns-clause-raised c =
+    subst (λ (old : Slot). RestoresRaised (λ config s. (send_transition config s c.args.object c.args.service).raises) (slot_at old)
+    (at_node_state (node_state c.send.new.self))) (sym c.in-Started.is)
+    (raised_call (λ config s. (send_transition config s c.args.object c.args.service).raises) (node_state c.in-Started.node)
+    (node_state c.send.new.self) (search rules) c.send.ensures.runs.now)

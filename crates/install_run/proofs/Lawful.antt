@@ -1,0 +1,26 @@
+-- All laws of a world, by what holds of its parts.
+use Rattle.std.proofs.Common.{◌≡◌, List, subst}
+use Rattle.key_tables.specs.declared.types.Row.{Row}
+use Rattle.script_text.specs.declared.node_row.NodeRow.{NodeRow}
+use Rattle.step_text.specs.declared.outcome.Step.{Step}
+use Rattle.install_run.specs.Laws.{KeepsLaws}
+use Rattle.install_run.specs.Machine.{TelegramAt}
+use Rattle.install_run.specs.Origin.{IsRun}
+use Rattle.install_run.specs.Place.{PlaceAt, world_in}
+use Rattle.install_run.specs.World.{WorldState, world_state}
+use Rattle.install_run.proofs.Rising.{draws_once}
+use Rattle.install_run.proofs.Marking.{marks_kept}
+use Rattle.install_run.proofs.Journalling.{exceeds_marks, journal_rises}
+use Rattle.install_run.proofs.Valuing.{by_journal}
+
+pub keeps_laws : (rows : List Row) (nodes : List NodeRow) (places : List PlaceAt) (air : List TelegramAt)
+    (history : List Step) (w : WorldState) → IsRun rows nodes places air history
+    → world_state rows nodes places air history ≡ w → KeepsLaws w
+keeps_laws rows nodes places air history w run is = subst KeepsLaws is (record {
+  comes = run.run;
+  draws = λ place row. draws_once rows nodes (world_in places air) history place row run.run run.held;
+  marks = λ place row. marks_kept rows nodes (world_in places air) history place row run.run run.held;
+  acts = λ place row. exceeds_marks rows nodes (world_in places air) history place row run.run run.held;
+  journals = λ place row. journal_rises rows nodes (world_in places air) history place row run.run run.held;
+  objects = λ place row. by_journal rows nodes (world_in places air) history place row run.run;
+})

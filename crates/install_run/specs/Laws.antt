@@ -1,0 +1,47 @@
+-- What holds of every history. This is statement; the words are those of Histories, Marks, Journals and Values.
+use Rattle.std.specs.Prelude.{◌≡◌, ℕ, slice_get, Some}
+use Rattle.script_text.specs.declared.node_row.NodeRow.{NodeRow}
+use Rattle.install_run.specs.First.{first_world}
+use Rattle.install_run.specs.Histories.{DrawsOnce}
+use Rattle.install_run.specs.Journals.{ExceedsMarks, JournalRises}
+use Rattle.install_run.specs.Marks.{NoMarkFalls}
+use Rattle.install_run.specs.Origin.{IsRunOf, events_of}
+use Rattle.install_run.specs.Values.{ObjectsByJournal}
+use Rattle.install_run.specs.World.{WorldState}
+
+-- World and history are what the events make of the script.
+abbrev pub ComesOfScript : WorldState → Type 0
+ComesOfScript w = IsRunOf w.rows w.nodes w.world w.history
+
+-- No node draws a number twice.
+abbrev pub NoNumberTwice : WorldState → Type 0
+NoNumberTwice w = (place : ℕ) (row : NodeRow) → slice_get w.nodes place ≡ Some row → DrawsOnce place row w.history
+
+-- No mark of a node falls, through cuts, faults and starts.
+abbrev pub KeepsMarks : WorldState → Type 0
+KeepsMarks w =
+    (place : ℕ) (row : NodeRow) → slice_get w.nodes place ≡ Some row
+    → NoMarkFalls place (events_of w.history) (first_world w.rows w.nodes)
+
+-- What a node acts on is above the mark of its lane before that step,
+abbrev pub ActsAbove : WorldState → Type 0
+ActsAbove w =
+    (place : ℕ) (row : NodeRow) → slice_get w.nodes place ≡ Some row
+    → ExceedsMarks place (events_of w.history) (first_world w.rows w.nodes)
+
+-- and so the numbers of its journal rise on each lane.
+abbrev pub JournalsRise : WorldState → Type 0
+JournalsRise w = (place : ℕ) (row : NodeRow) → slice_get w.nodes place ≡ Some row → JournalRises place w.history
+
+-- The objects of a node that runs change exactly by its journal.
+abbrev pub ObjectsFollow : WorldState → Type 0
+ObjectsFollow w =
+    (place : ℕ) (row : NodeRow) → slice_get w.nodes place ≡ Some row → ObjectsByJournal place row w.world w.history
+
+pub record KeepsLaws (w : WorldState) : Type 0 where
+  pub comes : ComesOfScript w
+  pub draws : NoNumberTwice w
+  pub marks : KeepsMarks w
+  pub acts : ActsAbove w
+  pub journals : JournalsRise w
+  pub objects : ObjectsFollow w
