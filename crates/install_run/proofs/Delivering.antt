@@ -85,7 +85,8 @@ received_acts c s octets number lane d =
       is = ap (λ f. (frame_transition c s f t).outcome) d.is_frame
           ∙ ap (λ to. (addressed_transition c s t to).outcome) d.is_for
           ∙ ap (λ lane. (telegram_transition c s t d.to lane).outcome) d.lane_is
-          ∙ ap (λ v. (verdict_transition c (raised raises s) (source_of t) d.to lane (opened_by c.rows asked t) v).outcome)
+          ∙ ap (λ v. (verdict_transition c (raised raises s) (source_of t) d.to lane (opened_by c.rows asked t)
+          v).outcome)
           d.passes ∙ a.is;
     }
 

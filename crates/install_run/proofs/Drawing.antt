@@ -172,7 +172,8 @@ drawing_draws : (none_left : Bool) (told : Result ℕ SendFault → StepOutcome)
     → TellsDraw told → (s.next == 2 ^ 48) ≡ none_left → s.next ≤ 2 ^ 48
     → (let t : Transition (Result ℕ SendFault) = if none_left then quiet s (Err fault.Exhausted) else sealing frame s in
     Draws (told t.outcome) t.raises t.after s)
-drawing_draws true told frame s tells is fits = silent_draws (told (Err fault.Exhausted)) s (tells.silent fault.Exhausted)
+drawing_draws true told frame s tells is fits =
+    silent_draws (told (Err fault.Exhausted)) s (tells.silent fault.Exhausted)
 drawing_draws false told frame s tells is fits =
     let other : s.next ≢ 2 ^ 48 = λ last. elim (false≢true (sym is ∙ eq-eqb s.next (2 ^ 48) last)) [ ] in
     sealing_draws told frame s tells (omega (arith, other, fits))
@@ -225,7 +226,8 @@ send_tells count = record {
 
 flag_draws : (transmits : Bool) (count : ℕ) (c : ConfigState) (s : Standing) (group : GroupAddr) (apdu : List ℕ)
     → s.next ≤ 2 ^ 48
-    → (let t : Transition (Result ℕ SendFault) = if transmits then group_transition c s group apdu else quiet s (Err fault.Flag) in
+    → (let t : Transition (Result ℕ SendFault) =
+    if transmits then group_transition c s group apdu else quiet s (Err fault.Flag) in
     Draws (send_told count t.outcome) t.raises t.after s)
 flag_draws true count c s group apdu fits = group_draws (send_told count) c s group apdu (send_tells count) fits
 flag_draws false count c s group apdu fits =
@@ -268,7 +270,8 @@ ask_draws count c s to challenge fits =
 set_draws : (refusal : Option SetFault) (s : Standing) (object : ℕ) (value : ObjectValue)
     → (let t = set_unless refusal s (with_value object value s) in Draws (set_told t.outcome) t.raises t.after s)
 set_draws None s object value =
-    let d = silent_draws outcome.Set s (record { sends = refl; next = λ n. refl; reserved = λ r n. refl; says = refl }) in
+    let d =
+    silent_draws outcome.Set s (record { sends = refl; next = λ n. refl; reserved = λ r n. refl; says = refl }) in
     record {
       next = d.next;
       reserved = d.reserved;
@@ -362,8 +365,8 @@ module _ (count : ℕ) where
       → (let t = reply_transition c s number lane object group value in
       Draws (receive_told count t.outcome) t.raises t.after s)
   reply_draws c s number lane object group (Some value) fits =
-      group_draws (λ sent. receive_told count (received.Acted number lane (act.Read object (number_sent sent)))) c s group
-      (service_apdu service.Response value) (reply_tells number lane object) fits
+      group_draws (λ sent. receive_told count (received.Acted number lane (act.Read object (number_sent sent)))) c s
+      group (service_apdu service.Response value) (reply_tells number lane object) fits
   reply_draws c s number lane object group None fits = ignored_draws s
 
   -- an act without a reply

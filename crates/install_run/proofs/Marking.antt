@@ -35,7 +35,8 @@ by_both old old' new new' old_is new_is falls =
     subst (λ m. NoneFalls m new') (sym old_is) (subst (λ m. NoneFalls old m) (sym new_is) falls)
 
 pub marks_step : (e : Event) (air : List TelegramAt) (n n' : NodeAt) (said : StepOutcome) → StepsTo e air n said n'
-    → n'.config ≡ n.config → IsHeld e air n n' → AllStand n → NoneFalls (marks_by n n.standing) (marks_by n' n'.standing)
+    → n'.config ≡ n.config → IsHeld e air n n' → AllStand n
+    → NoneFalls (marks_by n n.standing) (marks_by n' n'.standing)
 marks_step e air n n' said (inl g) config held stand =
     let s = g.before in
     let c : Transition StepOutcome = call_of e air n.config s in

@@ -90,7 +90,8 @@ run_step rows nodes e places new air air' history said before turned =
         installation = before.run.installation;
         world_is = turned.world_is ∙ ap (after e) now_is ∙ sym (after-more events e first)
             ∙ ap (λ es. world_after es first) (sym all_is);
-        history_is = said_is ∙ told_is ∙ sym (history-more events e first) ∙ ap (λ es. history_of es first) (sym all_is);
+        history_is = said_is ∙ told_is ∙ sym (history-more events e first)
+            ∙ ap (λ es. history_of es first) (sym all_is);
       };
       held = subst (λ es. AreHeld es first) (sym all_is)
           (held_more events e first before.held

@@ -100,13 +100,15 @@ slot_stands Empty s is = absurd cc
 
 -- ---- the memory of a node that ran
 
-pub raised_call : (raises : ConfigState → Standing → List Raise) (old new : NodeState SimNvm) → old.running ≡ true
+pub raised_call : (raises : ConfigState → Standing → List Raise) (slot : Slot) (old new : NodeState SimNvm)
+    → slot_at slot ≡ at_node_state old → old.running ≡ true
     → RestoresSome (raises old.config old.standing) old.standing.numbers (sim_state new.memory).octets
-    → RestoresRaised raises (at_node_state old) (at_node_state new)
-raised_call raises old new runs some = record {
-  some = λ s is. subst (λ s. RestoresSome (raises old.config s) s.numbers (sim_state new.memory).octets)
-      (some_same old.standing s (ap (λ r. standing_of r old.standing) (sym runs) ∙ is)) some;
-}
+    → RestoresRaised raises (slot_at slot) (at_node_state new)
+raised_call raises slot old new is runs some =
+    subst (λ n. RestoresRaised raises n (at_node_state new)) (sym is) (record {
+      some = λ s now. subst (λ s. RestoresSome (raises old.config s) s.numbers (sim_state new.memory).octets)
+          (some_same old.standing s (ap (λ r. standing_of r old.standing) (sym runs) ∙ now)) some;
+    })
 
 -- an event of a slot that makes no raises and leaves the octets
 pub raised_none : (slot : Slot) (new : NodeAt) → new.octets ≡ (slot_at slot).octets

@@ -129,8 +129,8 @@ pub after-more : (events : List Event) (e : Event) (w : WorldAt)
 after-more [] e w = refl
 after-more (first ∷ events) e w = after-more events e (after first w)
 
-pub history-more : (events : List Event) (e : Event) (w : WorldAt) → history_of (events ++ e ∷ []) w ≡ history_of events w
-    ++ step_of e (world_after events w) ∷ []
+pub history-more : (events : List Event) (e : Event) (w : WorldAt)
+    → history_of (events ++ e ∷ []) w ≡ history_of events w ++ step_of e (world_after events w) ∷ []
 history-more [] e w = refl
 history-more (first ∷ events) e w = ap (λ rest. step_of first w ∷ rest) (history-more events e (after first w))
 

@@ -256,7 +256,8 @@ values_step e air n n' said values (inl g) has = λ s now.
     ∙ ap (λ said. values_after first e said values) (sym g.outcome_is)
 values_step e air n n' said values (inr (inl st)) has = λ s now. elim (none-some s (sym st.now ∙ now)) [ ]
 values_step e air n n' said values (inr (inr (inl st))) has = λ s now.
-    ap (λ (s : Standing). s.values) (some_same s (started n.config (numbers_in (length n.config.lanes) n.octets)) (sym now ∙ st.now))
+    ap (λ (s : Standing). s.values)
+    (some_same s (started n.config (numbers_in (length n.config.lanes) n.octets)) (sym now ∙ st.now))
     ∙ ap (λ said. values_after (first_values n.config.objects) e said values) (sym st.outcome_is)
 values_step e air n n' said values (inr (inr (inr st))) has = λ s now. elim (none-some s (sym st.now ∙ now)) [ ]
 

@@ -40,4 +40,5 @@ numbers_on lane (entry.Telegram telegram number its act ∷ entries) =
 
 -- They rise strictly, so no telegram is acted on twice.
 abbrev pub JournalRises : ℕ → List Step → Type 0
-JournalRises place history = (lane : Lane) → AllPairs (λ early late. early < late) (numbers_on lane (journal_of place history))
+JournalRises place history =
+    (lane : Lane) → AllPairs (λ early late. early < late) (numbers_on lane (journal_of place history))

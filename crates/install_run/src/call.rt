@@ -127,8 +127,8 @@ impl Slot {
             (slot_at self.new) out.new }
         ensures cause { HasStopCause result (counts_at self.old) (counts_at self.new) }
         ensures sound { IsSound (slot_at self.old) → IsSound (slot_at self.new) }
-        ensures raised { RestoresRaised (λ c s. heard_raises c s (option_map (λ octets. octets.now) octets.entry)) (slot_at self.old)
-            (slot_at self.new) }
+        ensures raised { RestoresRaised (λ c s. heard_raises c s (option_map (λ octets. octets.now) octets.entry))
+            (slot_at self.old) (slot_at self.new) }
     {
         let Slot::Started(node) = self else {
             return StepOutcome::Off;

@@ -2,8 +2,8 @@
 ghost use Rattle.install_run.specs.Machine.{WorldAt};
 ghost use Rattle.install_run.specs.Deliverable.{ActsOnDeliverable};
 
-/// A telegram that is on the air and not lost, for a node that runs, and that passes every check, is acted on where it is
-/// delivered, and is the journal entry of that step; or the step's outcome is Cut or Fault.
+/// A telegram that is on the air and not lost, for a node that runs, and that passes every check, is acted on where it
+/// is delivered, and is the journal entry of that step; or the step's outcome is Cut or Fault.
 #[tactic(auto, using(crate::proofs::Delivering::acts_on_deliverable))]
 pub fn deliverable_is_acted_on()
     ensures acts { (w : WorldAt) → ActsOnDeliverable w }

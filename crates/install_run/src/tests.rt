@@ -1,5 +1,6 @@
-use crate::World;
-use knx_base::MemSink;
+use crate::{World, deliverable_is_acted_on};
+use key_tables::Lane;
+use knx_base::{IndAddr, MemSink};
 use script_text::read_script;
 use std::alloc::Global;
 use std::test::Fail;
@@ -53,6 +54,20 @@ fn told(alloc: Global, parts: &[&str]) -> Result<MemSink, Fail> {
         world.print_step(place, &mut out)?;
     }
     Ok(out)
+}
+
+// The laws can be called for each world, and ask for nothing.
+#[test]
+fn the_laws_are_there(rt: HostRuntime) -> Result<(), Fail> {
+    let mut text = String::new(rt.alloc());
+    for part in [HEAD, NODES, "send push 0 write\ndeliver 1 lamp\n"] {
+        text.push_str(part)?;
+    }
+    let world = played(rt.alloc(), &text)?;
+    world.keeps_laws();
+    deliverable_is_acted_on();
+    assert_eq!(rt; world.history().len(), 2);
+    Ok(())
 }
 
 #[test]

@@ -1,7 +1,5 @@
-use Rattle.std.proofs.Common.{rules, subst, sym}
-use Rattle.install_run.specs.Holding.{RestoresRaised}
-use Rattle.install_run.specs.Slot.{slot_at, at_node_state}
-use Rattle.install_run.specs.declared.slot.Slot.{Slot}
+use Rattle.std.proofs.Common.{rules, ap}
+use Rattle.install_run.specs.Slot.{slot_at}
 use Rattle.node_core.specs.Receiving.{receive_transition}
 use Rattle.node_core.specs.Node.{node_state}
 use Rattle.install_run.proofs.Sounding.{sound_call, raised_call}
@@ -14,7 +12,6 @@ returns-clause-sound c = λ _. sound_call _ (node_state c.in-Started.node) (node
 pub returns-clause-raised : goal.returns-clause-raised
 returns-clause-raised c =
     rw c.in-Some.is
-    (subst (λ (old : Slot). RestoresRaised (λ config s. (receive_transition config s c.in-Some.octets.now).raises)
-    (slot_at old) (at_node_state (node_state c.receive.new.self))) (sym c.in-Started.is)
-    (raised_call (λ config s. (receive_transition config s c.in-Some.octets.now).raises) (node_state c.in-Started.node)
-    (node_state c.receive.new.self) (search rules) c.receive.ensures.runs.now))
+    (raised_call (λ config s. (receive_transition config s c.in-Some.octets.now).raises) c.args.self.now
+    (node_state c.in-Started.node) (node_state c.receive.new.self) (ap slot_at c.in-Started.is) (search rules)
+    c.receive.ensures.runs.now)

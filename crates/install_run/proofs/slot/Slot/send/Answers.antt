@@ -1,7 +1,5 @@
-use Rattle.std.proofs.Common.{rules, subst, sym}
-use Rattle.install_run.specs.Holding.{RestoresRaised}
-use Rattle.install_run.specs.Slot.{slot_at, at_node_state}
-use Rattle.install_run.specs.declared.slot.Slot.{Slot}
+use Rattle.std.proofs.Common.{rules, ap}
+use Rattle.install_run.specs.Slot.{slot_at}
 use Rattle.node_core.specs.Sending.{send_transition}
 use Rattle.node_core.specs.Node.{node_state}
 use Rattle.install_run.proofs.Sounding.{sound_call, raised_call}
@@ -13,7 +11,6 @@ returns-in-Started-clause-sound c = λ _. sound_call _ (node_state c.in-Started.
 
 pub returns-clause-raised : goal.returns-clause-raised
 returns-clause-raised c =
-    subst (λ (old : Slot). RestoresRaised (λ config s. (send_transition config s c.args.object c.args.service).raises) (slot_at old)
-    (at_node_state (node_state c.send.new.self))) (sym c.in-Started.is)
-    (raised_call (λ config s. (send_transition config s c.args.object c.args.service).raises) (node_state c.in-Started.node)
-    (node_state c.send.new.self) (search rules) c.send.ensures.runs.now)
+    raised_call (λ config s. (send_transition config s c.args.object c.args.service).raises) c.args.self.now
+    (node_state c.in-Started.node) (node_state c.send.new.self) (ap slot_at c.in-Started.is) (search rules)
+    c.send.ensures.runs.now

@@ -109,7 +109,8 @@ returns-in-Cut-clause-held c =
     (c.arm_cut.ensures.sound)
     (subst (λ (e : Event). RestoresRaised (raises_of e c.args.air.now) (slot_at c.args.self.now)
     (slot_at c.arm_cut.new.self)) (sym c.in-Cut.is)
-    (arm_raised c.args.self.now (with_cut c.in-Cut.write c.in-Cut.torn) (slot_at c.arm_cut.new.self) c.arm_cut.ensures.taken.node_is))
+    (arm_raised c.args.self.now (with_cut c.in-Cut.write c.in-Cut.torn) (slot_at c.arm_cut.new.self)
+    c.arm_cut.ensures.taken.node_is))
 
 pub returns-in-Fault-clause-held : goal.returns-in-Fault-clause-held
 returns-in-Fault-clause-held c =
@@ -117,4 +118,5 @@ returns-in-Fault-clause-held c =
     (c.arm_fail.ensures.sound)
     (subst (λ (e : Event). RestoresRaised (raises_of e c.args.air.now) (slot_at c.args.self.now)
     (slot_at c.arm_fail.new.self)) (sym c.in-Fault.is)
-    (arm_raised c.args.self.now (with_fault c.in-Fault.write c.in-Fault.torn) (slot_at c.arm_fail.new.self) c.arm_fail.ensures.taken.node_is))
+    (arm_raised c.args.self.now (with_fault c.in-Fault.write c.in-Fault.torn) (slot_at c.arm_fail.new.self)
+    c.arm_fail.ensures.taken.node_is))

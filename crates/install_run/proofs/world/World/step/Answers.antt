@@ -24,7 +24,8 @@ invariant_of-self-2 c =
     let back : take c.self.inside.places.len (c.turn.new.places
     ++ drop (length c.turn.new.places) c.self.inside.places.items) ≡ c.turn.new.places =
     grind (arith, common_steps, size) in
-    run_is c.self.inside.rows.items c.self.inside.nodes.items c.args.event.now c.self.inside.places.items c.deref_mut.result.now c.turn.new.places _
+    run_is c.self.inside.rows.items c.self.inside.nodes.items c.args.event.now c.self.inside.places.items
+    c.deref_mut.result.now c.turn.new.places _
     c.self.inside.air.items c.reserve.new.self.items c.turn.new.air.items c.self.inside.steps.items
     c.reserve-2.new.self.items c.note.new.steps.items
     c.in_ok-outcome.outcome c.self.invariant c.deref_mut.ensures.value c.reserve.ensures.items c.reserve-2.ensures.items
