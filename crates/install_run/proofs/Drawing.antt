@@ -82,7 +82,7 @@ pub record Draws (said : StepOutcome) (raises : List Raise) (new s : Standing) :
   pub numbers : new.numbers ≡ after_raises raises s.numbers
   pub says : IfSome (number_said said) (λ number. number ≡ s.next)
 
-none_said : (said : Option ℕ) (next : ℕ) → said ≡ None → IfSome said (λ number. number ≡ next)
+pub none_said : (said : Option ℕ) (next : ℕ) → said ≡ None → IfSome said (λ number. number ≡ next)
 none_said None next is = tt
 none_said (Some number) next is = absurd cc
 
@@ -198,11 +198,6 @@ group_draws told c s group apdu tells fits =
     (λ key number. sealed_frame key (data_head c.address group.0 true (group_field c group) number) apdu) tells fits
 
 -- ---- sending
-
-silent_refl : (said : StepOutcome) → has_telegram said ≡ false → ((next : ℕ) → next_after next said ≡ next)
-    → ((reserved next : ℕ) → reserved_after reserved next said ≡ reserved) → number_said said ≡ None → IsSilent said
-silent_refl said sends next reserved says =
-    record { sends = sends; next = next; reserved = reserved; says = says }
 
 stop_silent : (count : ℕ) (stopped : NvmFault) → IsSilent (send_told count (Err (fault.Memory stopped)))
 stop_silent count nvm.Cut = record { sends = refl; next = λ next. refl; reserved = λ r n. refl; says = refl }
@@ -505,7 +500,8 @@ quiet_draws : (said : StepOutcome) (s : Standing) → has_telegram said ≡ fals
     → ((next : ℕ) → next_after next said ≡ next)
     → ((reserved next : ℕ) → reserved_after reserved next said ≡ reserved) → number_said said ≡ None
     → Draws said [] s s
-quiet_draws said s sends next reserved says = silent_draws said s (silent_refl said sends next reserved says)
+quiet_draws said s sends next reserved says =
+    silent_draws said s (record { sends = sends; next = next; reserved = reserved; says = says })
 
 pub call_draws : (e : Event) (air : List TelegramAt) (c : ConfigState) (s : Standing) → s.next ≤ 2 ^ 48
     → (let t = call_of e air c s in Draws t.outcome t.raises t.after s)

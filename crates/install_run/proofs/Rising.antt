@@ -1,6 +1,6 @@
 -- The numbers that a node draws rise strictly: by the steps of a run, over cuts, faults and starts.
-use Rattle.std.proofs.Common.{◌≡◌, inl, inr, ℕ, ◌+◌, ◌<◌, ◌≤◌, List, [], ◌∷◌, ◌++◌, length, get_or, Bool, true, false, Option, Some, None, refl, sym, ap, ◌∙◌, subst, arith}
-use Rattle.std.specs.Prelude.{◌-◌, slice_get, unwrap_or, if◌then◌else◌, IfSome}
+use Rattle.std.proofs.Common.{◌≡◌, inl, inr, ℕ, ◌+◌, ◌<◌, ◌≤◌, List, [], ◌∷◌, ◌++◌, length, get_or, Bool, true, false, Some, None, refl, sym, ap, ◌∙◌, subst, arith}
+use Rattle.std.specs.Prelude.{◌-◌, slice_get, if◌then◌else◌, IfSome}
 use Rattle.std.specs.List.{All, AllPairs}
 use Rattle.std.proofs.lemmas.Option.{none-some, slice_get_within, get_or_from_slice_get}
 use Rattle.std.proofs.lemmas.List.{get_or-map, length-map}
@@ -28,11 +28,9 @@ use Rattle.install_run.specs.Holding.{Stands, IsHeld, raises_of}
 use Rattle.install_run.specs.Histories.{outcomes_of, next_after, reserved_after, Draw, draw_of, draws, number_said, SayTheNext, drawn_by, DrawsOnce}
 use Rattle.install_run.specs.Origin.{events_of, HoldsAfter, AreHeld, IsInstallation, IsRunOf}
 use Rattle.install_run.proofs.Climbing.{Climbs, NumbersUp, up_some}
-use Rattle.install_run.proofs.Drawing.{IsSilent, Draws, call_draws, same_raises, reservation_up}
+use Rattle.install_run.proofs.Sounding.{some_same}
+use Rattle.install_run.proofs.Drawing.{none_said, IsSilent, Draws, call_draws, same_raises, reservation_up}
 use Rattle.install_run.proofs.Steps.{StepsTo, Goes, Stops, Starts, Rests, IsSteppedAt, stepped_at, stays_at, same_size, is_its_place}
-
-some_same : {A : Type 0} (a b : A) → Some a ≡ Some b → a ≡ b
-some_same a b is = ap (λ o. unwrap_or o a) is
 
 -- ---- a telegram takes a number
 
@@ -104,10 +102,6 @@ one_draw : (floor reserved next : ℕ) (said : StepOutcome) (ds : List Draw) →
 one_draw floor reserved next said ds one above within drawn =
     subst (λ b. DrawnFrom floor ((if b then record { number = next; reserved = reservation_for reserved next } ∷ []
     else []) ++ ds)) (sym one) (above, within, drawn)
-
-none_said : (said : Option ℕ) (next : ℕ) → said ≡ None → IfSome said (λ number. number ≡ next)
-none_said None next is = tt
-none_said (Some number) next is = absurd cc
 
 -- ---- it goes on
 

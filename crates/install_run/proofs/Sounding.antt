@@ -79,7 +79,7 @@ only_memory lanes image NoMemory is unformatted told = refl
 
 -- ---- what stands in a memory beside a node
 
-some_same : {A : Type 0} (a b : A) → Some a ≡ Some b → a ≡ b
+pub some_same : {A : Type 0} (a b : A) → Some a ≡ Some b → a ≡ b
 some_same a b is = ap (λ o. unwrap_or o a) is
 
 stands_by : (running : Bool) (st s : Standing) (config : ConfigState) (memory : State)

@@ -1,6 +1,6 @@
 -- The values of a node change exactly by its journal: by the cases of a transition.
 use Rattle.std.proofs.Common.{◌≡◌, inl, inr, ℕ, ◌+◌, ◌<◌, List, [], ◌∷◌, length, Bool, true, false, Option, Some, None, Result, Ok, Err, refl, sym, ap, ◌∙◌, subst, arith}
-use Rattle.std.specs.Prelude.{◌^◌, ◌==◌, slice_get, unwrap_or, if◌then◌else◌}
+use Rattle.std.specs.Prelude.{◌^◌, ◌==◌, slice_get, if◌then◌else◌}
 use Rattle.std.proofs.lemmas.Option.{none-some}
 use Rattle.knx_base.specs.declared.address.IndAddr.{IndAddr}
 use Rattle.knx_base.specs.declared.address.GroupAddr.{GroupAddr}
@@ -59,6 +59,7 @@ use Rattle.install_run.specs.Calls.{deliver_call, call_of}
 use Rattle.install_run.specs.First.{first_numbers, first_node, first_world}
 use Rattle.install_run.specs.Origin.{events_of, IsRunOf}
 use Rattle.install_run.specs.Values.{with_entries, values_after, values_by, ObjectsByJournal}
+use Rattle.install_run.proofs.Sounding.{some_same}
 use Rattle.install_run.proofs.Steps.{StepsTo, IsSteppedAt, stepped_at, stays_at, same_size, is_its_place}
 use Rattle.install_run.proofs.Rising.{IsFirstAt, first_at}
 
@@ -236,9 +237,6 @@ call_changes first (event.Cut node write torn) air c s = refl
 call_changes first (event.Fault node write torn) air c s = refl
 
 -- ---- the steps of a run
-
-some_same : {A : Type 0} (a b : A) → Some a ≡ Some b → a ≡ b
-some_same a b is = ap (λ o. unwrap_or o a) is
 
 -- the values of a node that runs
 abbrev HasValues : NodeAt → List ObjectValue → Type 0

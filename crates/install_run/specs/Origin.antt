@@ -1,4 +1,5 @@
--- Where a world comes from: the script that it began with, and the events that it took. This is statement.
+-- Where a world comes from: the script that it began with, and the events that it took. This is statement, and what
+-- follows under 'parts' is plumbing for proofs.
 use Rattle.std.specs.Prelude.{◌≡◌, ℕ, List, [], ◌∷◌, length, map, false, Some, None}
 use Rattle.std.specs.List.{list_any, All, AllPairs}
 use Rattle.key_tables.specs.declared.types.Row.{Row}
