@@ -12,6 +12,8 @@ use Rattle.install_run.proofs.Rising.{draws_once}
 use Rattle.install_run.proofs.Marking.{marks_kept}
 use Rattle.install_run.proofs.Journalling.{exceeds_marks, journal_rises}
 use Rattle.install_run.proofs.Valuing.{by_journal}
+use Rattle.install_run.proofs.Verifying.{acts_on_verified}
+use Rattle.install_run.proofs.Delivering.{acts_on_deliverable}
 
 pub keeps_laws : (rows : List Row) (nodes : List NodeRow) (places : List PlaceAt) (air : List TelegramAt)
     (history : List Step) (w : WorldState) → IsRun rows nodes places air history
@@ -23,4 +25,6 @@ keeps_laws rows nodes places air history w run is = subst KeepsLaws is (record {
   acts = λ place row. exceeds_marks rows nodes (world_in places air) history place row run.run run.held;
   journals = λ place row. journal_rises rows nodes (world_in places air) history place row run.run run.held;
   objects = λ place row. by_journal rows nodes (world_in places air) history place row run.run;
+  verifies = acts_on_verified;
+  delivers = acts_on_deliverable;
 })

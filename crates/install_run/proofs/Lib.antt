@@ -10,6 +10,7 @@ mod Rising
 mod Marking
 mod Journalling
 mod Delivering
+mod Verifying
 mod Valuing
 mod Lawful
 mod Ending

@@ -1,12 +1,16 @@
--- What holds of every history. This is statement; the words are those of Histories, Marks, Journals and Values.
+-- What holds of every history. This is statement; the words are those of Histories, Marks,
+-- Journals, Values, Verified and Deliverable.
 use Rattle.std.specs.Prelude.{◌≡◌, ℕ, slice_get, Some}
 use Rattle.script_text.specs.declared.node_row.NodeRow.{NodeRow}
+use Rattle.install_run.specs.Deliverable.{ActsOnDeliverable}
 use Rattle.install_run.specs.First.{first_world}
 use Rattle.install_run.specs.Histories.{DrawsOnce}
 use Rattle.install_run.specs.Journals.{ExceedsMarks, JournalRises}
 use Rattle.install_run.specs.Marks.{NoMarkFalls}
 use Rattle.install_run.specs.Origin.{IsRunOf, events_of}
+use Rattle.install_run.specs.Machine.{WorldAt}
 use Rattle.install_run.specs.Values.{ObjectsByJournal}
+use Rattle.install_run.specs.Verified.{ActsOnVerified}
 use Rattle.install_run.specs.World.{WorldState}
 
 -- World and history are what the events make of the script.
@@ -45,3 +49,6 @@ pub record KeepsLaws (w : WorldState) : Type 0 where
   pub acts : ActsAbove w
   pub journals : JournalsRise w
   pub objects : ObjectsFollow w
+  -- in each state of an installation, so in each of this history
+  pub verifies : (at : WorldAt) → ActsOnVerified at
+  pub delivers : (at : WorldAt) → ActsOnDeliverable at

@@ -6,6 +6,7 @@ pub mod Histories
 pub mod Marks
 pub mod Journals
 pub mod Deliverable
+pub mod Verified
 pub mod Values
 pub mod Laws
 pub mod Air

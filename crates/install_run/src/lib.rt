@@ -17,6 +17,6 @@ mod tests;
 mod turn;
 mod world;
 
-pub use law::deliverable_is_acted_on;
+pub use law::{acted_on_is_verified, deliverable_is_acted_on};
 pub use step_text::{Entry, Step, StepOutcome};
 pub use world::World;

@@ -1,4 +1,4 @@
-use crate::{World, deliverable_is_acted_on};
+use crate::{World, acted_on_is_verified, deliverable_is_acted_on};
 use key_tables::Lane;
 use knx_base::{IndAddr, MemSink};
 use script_text::read_script;
@@ -65,6 +65,7 @@ fn the_laws_are_there(rt: HostRuntime) -> Result<(), Fail> {
     }
     let world = played(rt.alloc(), &text)?;
     world.keeps_laws();
+    acted_on_is_verified();
     deliverable_is_acted_on();
     assert_eq!(rt; world.history().len(), 2);
     Ok(())
