@@ -9,8 +9,8 @@ pub returns-in-Started-clause-sound : goal.returns-in-Started-clause-sound
 returns-in-Started-clause-sound c = λ _. sound_call _ (node_state c.in-Started.node) (node_state c.send.new.self)
     c.in-Started.node.lanes c.send.ensures.does.config c.send.ensures.runs.now
 
-pub returns-clause-raised : goal.returns-clause-raised
-returns-clause-raised c =
+pub returns-in-Started-clause-raised : goal.returns-in-Started-clause-raised
+returns-in-Started-clause-raised c =
     raised_call (λ config s. (send_transition config s c.args.object c.args.service).raises) c.args.self.now
     (node_state c.in-Started.node) (node_state c.send.new.self) (ap slot_at c.in-Started.is) (search rules)
     c.send.ensures.runs.now
