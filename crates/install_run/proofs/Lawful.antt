@@ -13,7 +13,7 @@ use Rattle.install_run.proofs.Marking.{marks_kept}
 use Rattle.install_run.proofs.Journalling.{exceeds_marks, journal_rises}
 use Rattle.install_run.proofs.Valuing.{by_journal}
 use Rattle.install_run.proofs.Verifying.{acts_on_verified}
-use Rattle.install_run.proofs.Delivering.{acts_on_deliverable}
+use Rattle.install_run.proofs.Delivering.{acts_on_all_deliverable}
 
 pub keeps_laws : (rows : List Row) (nodes : List NodeRow) (places : List PlaceAt) (air : List TelegramAt)
     (history : List Step) (w : WorldState) → IsRun rows nodes places air history
@@ -26,5 +26,6 @@ keeps_laws rows nodes places air history w run is = subst KeepsLaws is (record {
   journals = λ place row. journal_rises rows nodes (world_in places air) history place row run.run run.held;
   objects = λ place row. by_journal rows nodes (world_in places air) history place row run.run;
   verifies = acts_on_verified;
-  delivers = acts_on_deliverable;
+  delivers = λ steps node.
+      acts_on_all_deliverable rows nodes (world_in places air) history steps node run.run run.held;
 })

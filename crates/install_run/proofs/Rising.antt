@@ -7,6 +7,7 @@ use Rattle.std.proofs.lemmas.List.{get_or-map, length-map}
 use Rattle.std.proofs.lemmas.List.Elements.{All-nil, All-cons}
 use Rattle.std.proofs.lemmas.List.Kept.{AllPairs-cons}
 use Rattle.key_tables.specs.declared.types.Row.{Row}
+use Rattle.group_objects.specs.declared.row.ObjectRow.{ObjectRow}
 use Rattle.seq_store.specs.Draws.{reservation_for}
 use Rattle.seq_store.specs.Runs.{Numbers, Raise, numbers_in}
 use Rattle.seq_store.proofs.Formatted.{formatted_restores}
@@ -315,6 +316,7 @@ first_fits rows row is =
                   (λ k h. is.marks_fit k 0 h);
               each_lane = is.marks;
               next_fits = omega (arith, fits);
+              each_value = length-map row.objects (λ (row : ObjectRow). row.value);
             };
           });
       rests = λ none. absurd cc;

@@ -84,17 +84,18 @@ some_same a b is = ap (λ o. unwrap_or o a) is
 
 stands_by : (running : Bool) (st s : Standing) (config : ConfigState) (memory : State)
     → (running ≡ true → Agrees memory st.numbers.marks st.numbers.reserved)
-    → length st.numbers.marks ≡ length config.lanes → st.next ≤ 2 ^ 48 → standing_of running st ≡ Some s
+    → length st.numbers.marks ≡ length config.lanes → st.next ≤ 2 ^ 48 → length st.values ≡ length config.objects
+    → standing_of running st ≡ Some s
     → Stands s (node_at config (standing_of running st) memory)
-stands_by true st s config memory agrees lanes fits is =
+stands_by true st s config memory agrees lanes fits values is =
     subst (λ s. Stands s (node_at config (Some st) memory)) (some_same st s is)
-    (record { restores = (agrees refl).restores; each_lane = lanes; next_fits = fits })
-stands_by false st s config memory agrees lanes fits is = absurd cc
+    (record { restores = (agrees refl).restores; each_lane = lanes; next_fits = fits; each_value = values })
+stands_by false st s config memory agrees lanes fits values is = absurd cc
 
 pub slot_stands : (slot : Slot) (s : Standing) → (slot_at slot).standing ≡ Some s → Stands s (slot_at slot)
 slot_stands (Started node) s is =
     stands_by node.store.sound (node_state node).standing s (node_state node).config (sim_state node.store.memory)
-    node.store.agrees node.lanes node.store.next_fits is
+    node.store.agrees node.lanes node.store.next_fits node.config.values is
 slot_stands (Stopped config memory) s is = absurd cc
 slot_stands Empty s is = absurd cc
 

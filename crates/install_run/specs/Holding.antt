@@ -10,12 +10,13 @@ use Rattle.install_run.specs.Machine.{TelegramAt, telegram_in, heard}
 use Rattle.install_run.specs.Slot.{IsSound}
 use Rattle.install_run.specs.Turn.{NodeAt}
 
--- A node that runs with this standing: its memory restores its numbers, a mark for each lane, and the next number is at
--- most one more than the last of 48 bits.
+-- A node that runs with this standing: its memory restores its numbers, there is a mark for each lane and a value for
+-- each object, and the next number is at most one more than the last of 48 bits.
 pub record Stands (s : Standing) (n : NodeAt) : Type 0 where
   pub restores : RestoresNumbers s.numbers n.octets
   pub each_lane : length s.numbers.marks ≡ length n.config.lanes
   pub next_fits : s.next ≤ 2 ^ 48
+  pub each_value : length s.values ≡ length n.config.objects
 
 -- the raises for what a node hears, if it hears something
 abbrev pub heard_raises : ConfigState → Standing → Option (List ℕ) → List Raise

@@ -1,6 +1,6 @@
--- What holds of every history. This is statement; the words are those of Histories, Marks,
--- Journals, Values, Verified and Deliverable.
-use Rattle.std.specs.Prelude.{◌≡◌, ℕ, slice_get, Some}
+-- What holds of every history. This is statement; the words are those of Histories, Marks, Journals, Values, Passing,
+-- Verified and Deliverable.
+use Rattle.std.specs.Prelude.{◌≡◌, ℕ, take, slice_get, Some}
 use Rattle.script_text.specs.declared.node_row.NodeRow.{NodeRow}
 use Rattle.install_run.specs.Deliverable.{ActsOnDeliverable}
 use Rattle.install_run.specs.First.{first_world}
@@ -9,6 +9,7 @@ use Rattle.install_run.specs.Journals.{ExceedsMarks, JournalRises}
 use Rattle.install_run.specs.Marks.{NoMarkFalls}
 use Rattle.install_run.specs.Origin.{IsRunOf, events_of}
 use Rattle.install_run.specs.Machine.{WorldAt}
+use Rattle.install_run.specs.Runs.{world_after}
 use Rattle.install_run.specs.Values.{ObjectsByJournal}
 use Rattle.install_run.specs.Verified.{ActsOnVerified}
 use Rattle.install_run.specs.World.{WorldState}
@@ -42,6 +43,14 @@ abbrev pub ObjectsFollow : WorldState → Type 0
 ObjectsFollow w =
     (place : ℕ) (row : NodeRow) → slice_get w.nodes place ≡ Some row → ObjectsByJournal place row w.world w.history
 
+-- the installation after so many steps of its history: after all of them it is as it is now
+abbrev pub state_after : ℕ → WorldState → WorldAt
+state_after steps w = world_after (take steps (events_of w.history)) (first_world w.rows w.nodes)
+
+-- In each state that it went through and in that of now, whatever comes next, each node acts on what passes its checks.
+abbrev pub ActsOnAllDeliverable : WorldState → Type 0
+ActsOnAllDeliverable w = (steps node : ℕ) → ActsOnDeliverable (state_after steps w) node
+
 pub record KeepsLaws (w : WorldState) : Type 0 where
   pub comes : ComesOfScript w
   pub draws : NoNumberTwice w
@@ -51,4 +60,4 @@ pub record KeepsLaws (w : WorldState) : Type 0 where
   pub objects : ObjectsFollow w
   -- in each state of an installation, so in each of this history
   pub verifies : (at : WorldAt) → ActsOnVerified at
-  pub delivers : (at : WorldAt) → ActsOnDeliverable at
+  pub delivers : ActsOnAllDeliverable w

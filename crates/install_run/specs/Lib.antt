@@ -5,6 +5,7 @@ pub mod Runs
 pub mod Histories
 pub mod Marks
 pub mod Journals
+pub mod Passing
 pub mod Deliverable
 pub mod Verified
 pub mod Values
