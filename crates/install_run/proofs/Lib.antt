@@ -12,6 +12,7 @@ mod Journalling
 mod Delivering
 mod Verifying
 mod Valuing
+mod Counting
 mod Lawful
 mod Ending
 mod Summing

@@ -1,5 +1,5 @@
--- What holds of every history. This is statement; the words are those of Histories, Marks, Journals, Values, Passing,
--- Verified and Deliverable.
+-- What holds of every history. This is statement; the words are those of Histories, Marks, Journals, Values, Since,
+-- Passing, Verified and Deliverable.
 use Rattle.std.specs.Prelude.{◌≡◌, ℕ, take, slice_get, Some}
 use Rattle.script_text.specs.declared.node_row.NodeRow.{NodeRow}
 use Rattle.install_run.specs.Deliverable.{ActsOnDeliverable}
@@ -10,6 +10,7 @@ use Rattle.install_run.specs.Marks.{NoMarkFalls}
 use Rattle.install_run.specs.Origin.{IsRunOf, events_of}
 use Rattle.install_run.specs.Machine.{WorldAt}
 use Rattle.install_run.specs.Runs.{world_after}
+use Rattle.install_run.specs.Since.{HasNumbersSince}
 use Rattle.install_run.specs.Values.{ObjectsByJournal}
 use Rattle.install_run.specs.Verified.{ActsOnVerified}
 use Rattle.install_run.specs.World.{WorldState}
@@ -50,6 +51,12 @@ state_after steps w = world_after (take steps (events_of w.history)) (first_worl
 -- In each state that it went through and in that of now, whatever comes next, each node acts on what passes its checks.
 abbrev pub ActsOnAllDeliverable : WorldState → Type 0
 ActsOnAllDeliverable w = (steps node : ℕ) → ActsOnDeliverable (state_after steps w) node
+
+-- Each node that runs has the numbers of its steps since its last start.
+abbrev pub NumbersFollow : WorldState → Type 0
+NumbersFollow w =
+    (place : ℕ) (row : NodeRow) → slice_get w.nodes place ≡ Some row
+    → HasNumbersSince place row (events_of w.history) (first_world w.rows w.nodes) w.world
 
 pub record KeepsLaws (w : WorldState) : Type 0 where
   pub comes : ComesOfScript w

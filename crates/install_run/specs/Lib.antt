@@ -8,6 +8,7 @@ pub mod Journals
 pub mod Passing
 pub mod Deliverable
 pub mod Verified
+pub mod Since
 pub mod Values
 pub mod Laws
 pub mod Air

@@ -1,5 +1,5 @@
 -- The end of a report, and a summary, by the places of the nodes, as the code has them. This is plumbing for proofs.
-use Rattle.std.specs.Prelude.{ℕ, List, [], ◌∷◌, ◌++◌, length, Bool}
+use Rattle.std.specs.Prelude.{ℕ, List, ◌++◌, length, Bool}
 use Rattle.std.specs.Option.{is_some}
 use Rattle.std.specs.List.{zip, flat_map}
 use Rattle.seq_store.specs.Runs.{Numbers, numbers_in}

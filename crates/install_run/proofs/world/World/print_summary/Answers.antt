@@ -1,5 +1,4 @@
-use Rattle.std.proofs.Common.{◌++◌, ap, subst, ◌∙◌}
-use Rattle.std.specs.Io.KnownBytes.{append_known}
+use Rattle.std.proofs.Common.{◌++◌, subst}
 use Rattle.knx_base.specs.Sink.{Prints}
 use Rattle.step_text.specs.Text.{made_text, tally_text}
 use Rattle.step_text.proofs.Pieces.{then, no_more}
