@@ -106,7 +106,8 @@ group_marks c s group apdu =
 
 flag_marks : (transmits : Bool) (c : ConfigState) (s : Standing) (group : GroupAddr) (apdu : List ℕ)
     → (let t : Transition (Result ℕ SendFault) =
-    if transmits then group_transition c s group apdu else quiet s (Err fault.Flag) in t.after.numbers.marks ≡ s.numbers.marks)
+    if transmits then group_transition c s group apdu else quiet s (Err fault.Flag) in
+    t.after.numbers.marks ≡ s.numbers.marks)
 flag_marks true c s group apdu = group_marks c s group apdu
 flag_marks false c s group apdu = refl
 
