@@ -16,7 +16,8 @@ fn obey<R: rt::Env + rt::Files + Print + AllocGlobal>(rt: &R) -> Option<Status> 
     let words = words_after_name(rt.alloc(), rt).ok()?;
     let mut files = HostFiles::new(rt);
     let mut out = HostSink::new(rt);
-    Some(run(rt.alloc(), &words, &mut files, &mut out))
+    let mut played = None;
+    Some(run(rt.alloc(), &words, &mut files, &mut out, &mut played))
 }
 
 fn words_after_name<R: rt::Env + AllocGlobal>(alloc: Global, rt: &R) -> io::Result<Vec<String>> {

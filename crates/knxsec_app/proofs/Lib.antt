@@ -1,5 +1,7 @@
 pub mod Answering
+pub mod Paging
 pub mod Refused
 pub mod SoFar
 pub mod Stopping
+pub mod Telling
 pub mod Told

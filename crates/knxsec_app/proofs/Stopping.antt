@@ -8,7 +8,8 @@ use Rattle.knxsec_app.specs.Commands.{IsServed}
 use Rattle.knxsec_app.specs.Ends.{Stops}
 
 -- what was not written is a prefix of every report
-nothing_written : (answer : Answer) (status : Status) (old new : Option (List ℕ)) → (IsServed status → ⊥) → new ≡ old
+pub nothing_written : (answer : Answer) (status : Status) (old new : Option (List ℕ)) → (IsServed status → ⊥)
+    → new ≡ old
     → Answers answer status old new
 nothing_written answer Done old new cut same = elim (cut tt) [ ]
 nothing_written answer Alarm old new cut same = elim (cut tt) [ ]

@@ -5,13 +5,15 @@ use Rattle.std.specs.Borrow.{Bor}
 use Rattle.key_tables.specs.declared.types.Row.{Row}
 use Rattle.knxsec_app.specs.declared.words.Command.{Command}
 use Rattle.knxsec_app.specs.declared.words.Command.TheVariants as command
-use Rattle.knxsec_app.specs.Words.{Asked, Open, Audit, AuditKeyring}
+use Rattle.knxsec_app.specs.Words.{Asked, Open, Audit, AuditKeyring, Replay, Make}
 
 abbrev pub asked_of : Command → Asked
 asked_of (command.Open key frame) = Open key frame
 asked_of (command.Audit tables frames) = Audit tables.now frames.now
 asked_of (command.AuditKeyring names) =
     AuditKeyring names.keyring.now names.password.now names.tables.now names.frames.now
+asked_of (command.Replay script) = Replay script.now
+asked_of (command.Make number count) = Make number count
 
 -- the rows that are lent, where there are any
 abbrev pub rows_of : Option (Bor (List Row)) → Option (List Row)

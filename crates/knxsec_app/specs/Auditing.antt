@@ -17,7 +17,7 @@ use Rattle.audit_core.specs.Text.{line_text, total_text}
 use Rattle.knxsec_app.specs.declared.status.Status.{Status}
 use Rattle.knxsec_app.specs.declared.status.Status.TheVariants.{Done, Alarm, ReadFault, NoMemory}
 use Rattle.knxsec_app.specs.declared.whole_file.WholeFile.{WholeFile}
-use Rattle.knxsec_app.specs.declared.whole_file.WholeFile.TheVariants.{Tables, Keyring, Password}
+use Rattle.knxsec_app.specs.declared.whole_file.WholeFile.TheVariants.{Tables, Keyring, Password, Script}
 use Rattle.knxsec_app.specs.Answer.{Answer, after, ◌>>=◌, answer_from}
 use Rattle.knxsec_app.specs.Refusing.{refused, tables_reason, frames_reason, keyring_reason}
 
@@ -28,12 +28,14 @@ abbrev pub word_of : WholeFile → List ℕ
 word_of Tables = codes "tables"
 word_of Keyring = codes "keyring"
 word_of Password = codes "password"
+word_of Script = codes "script"
 
 -- the most octets that it may have
 abbrev pub most_of : WholeFile → ℕ
 most_of Tables = 4194304
 most_of Keyring = 4194304
 most_of Password = 4096
+most_of Script = 16777216
 
 -- the octets of the file, unless they are more than it may have
 abbrev pub within : WholeFile → List ℕ → Result (List ℕ) Answer

@@ -5,12 +5,16 @@ use Rattle.hex.specs.Hex.{encode_lower}
 use Rattle.judge_rules.specs.declared.verdict.Verdict.{Verdict}
 use Rattle.judge_rules.specs.Text.{verdict_text}
 use Rattle.key_tables.specs.declared.types.Row.{Row}
+use Rattle.script_text.specs.Script.{ScriptState}
+use Rattle.script_text.specs.Made.{made_script}
+use Rattle.install_run.specs.World.{WorldState}
 use Rattle.knxsec_app.specs.declared.status.Status.{Status}
 use Rattle.knxsec_app.specs.declared.status.Status.TheVariants.{Done, Alarm, Usage, ReadFault, NoMemory}
 use Rattle.knxsec_app.specs.declared.whole_file.WholeFile.TheVariants.{Keyring}
-use Rattle.knxsec_app.specs.Words.{Asked, Open, Audit, AuditKeyring, command_of}
+use Rattle.knxsec_app.specs.Words.{Asked, Open, Audit, AuditKeyring, Replay, Make, command_of}
 use Rattle.knxsec_app.specs.Answer.{Answer}
 use Rattle.knxsec_app.specs.Opening.{refusal_of, apdu_of}
+use Rattle.knxsec_app.specs.Replaying.{IsPlayed, replay_answer, make_answer, script_in}
 use Rattle.knxsec_app.specs.Auditing.{within, installation, keyring_rows, audit_answer, keyring_answer}
 
 -- printed where the words are of no form
@@ -35,6 +39,8 @@ answer_to (Some (Audit tables frames)) files = audit_answer (octets_in files tab
 answer_to (Some (AuditKeyring keyring password tables frames)) files =
     keyring_answer (octets_in files keyring) (octets_in files password) (octets_in files tables)
     (octets_in files frames)
+answer_to (Some (Replay script)) files = replay_answer (octets_in files script)
+answer_to (Some (Make number count)) files = make_answer number count
 
 -- the answer to the words, where these are the files
 abbrev pub answer_of : List (List ℕ) → List File → Answer
@@ -46,6 +52,8 @@ NamesNoFile None = Unit {0}
 NamesNoFile (Some (Open key frame)) = Unit {0}
 NamesNoFile (Some (Audit tables frames)) = ⊥
 NamesNoFile (Some (AuditKeyring keyring password tables frames)) = ⊥
+NamesNoFile (Some (Replay script)) = ⊥
+NamesNoFile (Some (Make number count)) = Unit {0}
 
 -- each file that the command names is one of these
 abbrev pub AreThere : Option Asked → List File → Type 0
@@ -54,6 +62,8 @@ AreThere (Some (Open key frame)) files = Unit {0}
 AreThere (Some (Audit tables frames)) files = IsThere files tables × IsThere files frames
 AreThere (Some (AuditKeyring keyring password tables frames)) files =
     IsThere files keyring × IsThere files password × IsThere files tables × IsThere files frames
+AreThere (Some (Replay script)) files = IsThere files script
+AreThere (Some (Make number count)) files = Unit {0}
 
 -- these are the files, as far as the command names any
 abbrev pub AreFiles : Option Asked → Seen → List File → Type 0
@@ -61,6 +71,8 @@ AreFiles None seen files = Unit {0}
 AreFiles (Some (Open key frame)) seen files = Unit {0}
 AreFiles (Some (Audit tables frames)) seen files = seen.told ≡ Some files
 AreFiles (Some (AuditKeyring keyring password tables frames)) seen files = seen.told ≡ Some files
+AreFiles (Some (Replay script)) seen files = seen.told ≡ Some files
+AreFiles (Some (Make number count)) seen files = Unit {0}
 
 -- the file of this name was read to its end
 abbrev pub IsRead : List File → Seen → List ℕ → Type 0
@@ -73,6 +85,8 @@ AreRead (Some (Open key frame)) files seen = Unit {0}
 AreRead (Some (Audit tables frames)) files seen = IsRead files seen tables × IsRead files seen frames
 AreRead (Some (AuditKeyring keyring password tables frames)) files seen =
     IsRead files seen keyring × IsRead files seen password × IsRead files seen tables × IsRead files seen frames
+AreRead (Some (Replay script)) files seen = IsRead files seen script
+AreRead (Some (Make number count)) files seen = Unit {0}
 
 abbrev pub Stays : Seen → Seen → List ℕ → Type 0
 Stays old new name = new.places name ≡ old.places name
@@ -90,6 +104,8 @@ AreUnopened (Some (AuditKeyring keyring password tables frames)) files old new =
     × ((rows : List Row) → keyring_rows (octets_in files keyring) (octets_in files password) ≡ Ok rows
     → IsErr (installation (Some rows) (octets_in files tables))
     → (other : List ℕ) → other ≢ keyring → other ≢ password → other ≢ tables → Stays old new other)
+AreUnopened (Some (Replay script)) files old new = (other : List ℕ) → other ≢ script → Stays old new other
+AreUnopened (Some (Make number count)) files old new = Unit {0}
 
 -- the report was written to its end after all files were read
 abbrev pub IsWhole : Status → Type 0
@@ -103,6 +119,50 @@ IsServed ReadFault = ⊥
 IsServed NoMemory = ⊥
 IsServed _ = Unit {0}
 
--- neither files nor memory were asked
-abbrev pub LeavesAlone : Status → Type 0
-LeavesAlone status = (status ≢ ReadFault) × (status ≢ NoMemory)
+-- the command takes no memory
+abbrev pub TakesNoMemory : Option Asked → Type 0
+TakesNoMemory None = Unit {0}
+TakesNoMemory (Some (Open key frame)) = Unit {0}
+TakesNoMemory (Some (Audit tables frames)) = ⊥
+TakesNoMemory (Some (AuditKeyring keyring password tables frames)) = ⊥
+TakesNoMemory (Some (Replay script)) = ⊥
+TakesNoMemory (Some (Make number count)) = ⊥
+
+-- A command that names no file leaves the files alone; one that takes no memory is never answered for want of it.
+pub record LeavesAlone (asked : Option Asked) (status : Status) (same_files : Type 0) : Type 0 where
+  pub unread : NamesNoFile asked → same_files
+  pub no_fault : NamesNoFile asked → status ≢ ReadFault
+  pub memory : TakesNoMemory asked → status ≢ NoMemory
+
+-- ---- what was played
+
+-- the command steps an installation through a script, which is this one where these are the files
+abbrev pub Steps : Option Asked → List File → ScriptState → Type 0
+Steps None files s = ⊥
+Steps (Some (Open key frame)) files s = ⊥
+Steps (Some (Audit tables frames)) files s = ⊥
+Steps (Some (AuditKeyring keyring password tables frames)) files s = ⊥
+Steps (Some (Replay script)) files s = script_in (octets_in files script) ≡ Ok s
+Steps (Some (Make number count)) files s = s ≡ made_script number count
+
+-- the command steps an installation
+abbrev pub StepsSome : Option Asked → Type 0
+StepsSome None = ⊥
+StepsSome (Some (Open key frame)) = ⊥
+StepsSome (Some (Audit tables frames)) = ⊥
+StepsSome (Some (AuditKeyring keyring password tables frames)) = ⊥
+StepsSome (Some (Replay script)) = Unit {0}
+StepsSome (Some (Make number count)) = Unit {0}
+
+-- a world went through the script that the command names
+pub record PlayedIn (asked : Option Asked) (files : List File) (played : Option WorldState) : Type 0 where
+  pub script : ScriptState
+  pub steps : Steps asked files script
+  pub is_played : IsPlayed script played
+
+-- Where all is done a command that steps an installation leaves the world that it stepped. Else what was played is as
+-- before.
+pub record Plays (asked : Option Asked) (seen : Seen) (status : Status) (old new : Option WorldState) : Type 0 where
+  pub played : StepsSome asked → status ≡ Done → (files : List File) → AreFiles asked seen files
+      → PlayedIn asked files new
+  pub unplayed : (StepsSome asked → status ≡ Done → ⊥) → new ≡ old

@@ -6,5 +6,6 @@ pub mod Ends
 pub mod Opening
 pub mod Page
 pub mod Refusing
+pub mod Replaying
 pub mod Status
 pub mod Words

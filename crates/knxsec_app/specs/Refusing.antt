@@ -6,6 +6,8 @@ use Rattle.key_tables.specs.declared.faults.BuildFault.{BuildFault}
 use Rattle.key_tables.specs.declared.faults.BuildFault.TheVariants as build
 use Rattle.key_tables.specs.declared.faults.TablesFault.{TablesFault}
 use Rattle.key_tables.specs.declared.faults.TablesFault.TheVariants as tables
+use Rattle.script_text.specs.declared.fault.ScriptFault.{ScriptFault}
+use Rattle.script_text.specs.declared.fault.ScriptFault.TheVariants as script
 use Rattle.tag_text.specs.declared.tag.TagFault.{TagFault}
 use Rattle.tag_text.specs.declared.tag.TagFault.TheVariants as tag
 use Rattle.keyring_reader.specs.Attributes.{name_of}
@@ -32,6 +34,14 @@ tables_reason (tables.Line number cause) = at_line number (cause_word cause)
 tables_reason (tables.Twice number) = at_line number (codes "twice")
 tables_reason (tables.TooMany number) = at_line number (codes "many")
 tables_reason tables.NoMemory = []
+
+-- the same of a script
+abbrev pub script_reason : ScriptFault → List ℕ
+script_reason (script.Line number cause) = at_line number (cause_word cause)
+script_reason (script.Order number) = at_line number (codes "order")
+script_reason (script.Twice number) = at_line number (codes "twice")
+script_reason (script.TooMany number) = at_line number (codes "many")
+script_reason script.NoMemory = []
 
 -- No text is refused for a fault of reading or for want of memory.
 abbrev pub frames_reason : RecordFault → List ℕ
@@ -71,6 +81,11 @@ keyring_reason keyring.NoMemory = []
 abbrev pub EndsTables : TablesFault → Status → Option (List ℕ) → Option (List ℕ) → Type 0
 EndsTables tables.NoMemory ended old new = (ended ≡ status.NoMemory) × (new ≡ old)
 EndsTables fault ended old new = Answers (refused (codes "tables") (tables_reason fault)) ended old new
+
+-- The same of a script.
+abbrev pub EndsScript : ScriptFault → Status → Option (List ℕ) → Option (List ℕ) → Type 0
+EndsScript script.NoMemory ended old new = (ended ≡ status.NoMemory) × (new ≡ old)
+EndsScript fault ended old new = Answers (refused (codes "script") (script_reason fault)) ended old new
 
 -- What is answered where merged rows have this fault: that there are too many, since no two of them say the same; or
 -- that memory was wanting.

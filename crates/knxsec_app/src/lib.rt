@@ -2,6 +2,7 @@
 #![tactic(auto)]
 
 mod auditing;
+mod count_word;
 mod ending;
 mod exit;
 mod frame_word;
@@ -9,6 +10,8 @@ mod keyring;
 mod obey;
 mod opening;
 mod page;
+mod part;
+mod playing;
 mod refusing;
 mod report;
 mod status;

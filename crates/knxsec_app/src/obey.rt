@@ -3,7 +3,7 @@ ghost use Rattle.std.specs.Option.{ForSome};
 ghost use Rattle.knx_base.specs.Files.{File};
 ghost use Rattle.knxsec_app.specs.Answer.{Answers};
 ghost use Rattle.knxsec_app.specs.Asked.{asked_of};
-ghost use Rattle.knxsec_app.specs.Commands.{answer_to, AreFiles, AreRead, AreThere, AreUnopened, IsServed, IsWhole, LeavesAlone, NamesNoFile};
+ghost use Rattle.knxsec_app.specs.Commands.{answer_to, AreFiles, AreRead, AreThere, AreUnopened, IsServed, IsWhole, LeavesAlone, Plays};
 ghost use Rattle.knxsec_app.specs.Ends.{EndsReading, EndsWriting};
 
 use crate::Status;
@@ -11,7 +11,9 @@ use crate::auditing::audit;
 use crate::ending::ended;
 use crate::keyring::audit_by_keyring;
 use crate::opening::open;
+use crate::playing::{make, replay};
 use crate::words::Command;
+use install_run::World;
 use knx_base::{Files, Sink, print_text};
 use std::alloc::Global;
 
@@ -21,6 +23,7 @@ pub(crate) fn obey<F: Files, S: Sink>(
     command: &Command<'_>,
     files: &mut F,
     out: &mut S,
+    played: &mut Option<World>,
 ) -> Status
     requires there { ForSome (F.seen files.old).told (λ told. AreThere (Some (asked_of command.now)) told) }
     ensures answer { (told : List File) → AreFiles (Some (asked_of command.now)) (F.seen files.old) told
@@ -32,13 +35,15 @@ pub(crate) fn obey<F: Files, S: Sink>(
         → AreUnopened (Some (asked_of command.now)) told (F.seen files.old) (F.seen files.new) }
     ensures told { (F.seen files.new).told ≡ (F.seen files.old).told }
     ensures ends { EndsReading (F.seen files.old) (F.seen files.new) (S.faults out.old) (S.faults out.new) result }
-    ensures alone { NamesNoFile (Some (asked_of command.now)) → LeavesAlone result }
-    ensures unread { NamesNoFile (Some (asked_of command.now)) → files.new ≡ files.old }
+    ensures alone { LeavesAlone (Some (asked_of command.now)) result (files.new ≡ files.old) }
+    ensures played { Plays (Some (asked_of command.now)) (F.seen files.old) result played.old played.new }
 {
     match command {
         Command::Open { key, frame } => open(key, frame, out),
         Command::Audit { tables, frames } => audit(alloc, tables, None, frames, files, out),
         Command::AuditKeyring(names) => audit_by_keyring(alloc, names, files, out),
+        Command::Replay { script } => replay(alloc, script, files, out, played),
+        Command::Make { number, count } => make(alloc, *number, count, out, played),
     }
 }
 

@@ -3,13 +3,14 @@ ghost use Rattle.keyring_reader.specs.Attributes.{name_of};
 ghost use Rattle.knxsec_app.specs.Answer.{Answer, Answers};
 ghost use Rattle.knxsec_app.specs.Commands.{IsWhole};
 ghost use Rattle.knxsec_app.specs.Ends.{EndsTelling, EndsWriting};
-ghost use Rattle.knxsec_app.specs.Refusing.{at_line, at_place, document_reason, keyring_reason, stored_text, refused, EndsMerged, EndsTables};
+ghost use Rattle.knxsec_app.specs.Refusing.{at_line, at_place, document_reason, keyring_reason, stored_text, refused, EndsMerged, EndsScript, EndsTables};
 
 use crate::Status;
 use crate::ending::ended;
 use key_tables::{BuildFault, TablesFault};
 use keyring_reader::{Attribute, KeyringFault};
 use knx_base::{LineBuf, Sink, print_text};
+use script_text::ScriptFault;
 use tag_text::TagFault;
 
 /// Says why a file is refused.
@@ -60,6 +61,22 @@ pub(crate) fn refuse_tables<S: Sink>(fault: &TablesFault, out: &mut S) -> Status
         TablesFault::Twice(line) => refuse(&line_at("tables", *line, "twice"), out),
         TablesFault::TooMany(line) => refuse(&line_at("tables", *line, "many"), out),
         TablesFault::NoMemory => Status::NoMemory,
+    }
+}
+
+/// Says why a script is refused.
+pub(crate) fn refuse_script<S: Sink>(fault: &ScriptFault, out: &mut S) -> Status
+    ensures answer { EndsScript fault.now result (S.octets out.old) (S.octets out.new) }
+    ensures memory { result ≡ Status.NoMemory → fault.now ≡ ScriptFault.NoMemory }
+    ensures ends { EndsTelling (S.faults out.old) (S.faults out.new) result }
+    ensures not_whole { IsWhole result → ⊥ }
+{
+    match fault {
+        ScriptFault::Line(line, cause) => refuse(&line_at("script", *line, cause.word()), out),
+        ScriptFault::Order(line) => refuse(&line_at("script", *line, "order"), out),
+        ScriptFault::Twice(line) => refuse(&line_at("script", *line, "twice"), out),
+        ScriptFault::TooMany(line) => refuse(&line_at("script", *line, "many"), out),
+        ScriptFault::NoMemory => Status::NoMemory,
     }
 }
 

@@ -12,11 +12,28 @@ ghost use Rattle.knxsec_app.specs.Refusing.{EndsList};
 use crate::Status;
 use crate::ending::ended;
 use crate::page::Page;
+use crate::part::{Part, pass};
 use crate::refusing::{line_at, refuse};
 use audit_core::{Audit, Line, print_line};
 use frame_file::RecordFault;
 use knx_base::{Failed, LineBuf, Sink};
 use secure_apdu::ApduBuf;
+
+/// The line of a record, with its time where that is known, and the APDU that was opened.
+#[derive(Drop)]
+struct RecordLine<'a> {
+    line: &'a Line,
+    time: Option<i64>,
+    apdu: &'a ApduBuf,
+}
+
+impl Part for RecordLine<'_> {
+    ghost text = { λ r. line_text r.line.now r.time r.apdu.now };
+
+    fn print<S: Sink>(&self, out: &mut S) -> Result<(), Failed> {
+        print_line(self.line, self.time, self.apdu, out)
+    }
+}
 
 /// Adds a line to the page, or, where it is full, hands on all that waits and the line.
 pub(crate) fn pass_line<S: Sink>(
@@ -30,15 +47,7 @@ pub(crate) fn pass_line<S: Sink>(
         (line_text line.now time apdu.now) }
     ensures cause { HasCause (S.faults out.old) (S.faults out.new) result }
 {
-    let held = page.len();
-    match print_line(line, time, apdu, page) {
-        Ok(()) => Ok(()),
-        Err(_) => {
-            page.cut(held);
-            page.hand_on(out)?;
-            print_line(line, time, apdu, out)
-        }
-    }
+    pass(&RecordLine { line, time, apdu }, page, out)
 }
 
 /// Hands on what waits, and ends the report with the total.

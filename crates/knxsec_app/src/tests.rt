@@ -6,6 +6,7 @@ use std::test::Fail;
 
 mod audits;
 mod keyrings;
+mod replays;
 
 const KEY: &str = "000102030405060708090a0b0c0d0e0f";
 
@@ -24,7 +25,7 @@ fn printed<R: rt::Files + AllocGlobal>(
         words.push(String::from_str(alloc, text)?)?;
     }
     let mut out = MemSink::new(alloc, room)?;
-    let status = run(alloc, &words, &mut HostFiles::new(rt), &mut out);
+    let status = run(alloc, &words, &mut HostFiles::new(rt), &mut out, &mut None);
     Ok((out, status))
 }
 

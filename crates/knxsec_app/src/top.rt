@@ -4,12 +4,13 @@ ghost use Rattle.std.specs.String.{string_bytes};
 ghost use Rattle.knx_base.specs.Files.{File};
 ghost use Rattle.knxsec_app.specs.Words.{command_of};
 ghost use Rattle.knxsec_app.specs.Answer.{Answers};
-ghost use Rattle.knxsec_app.specs.Commands.{answer_of, AreFiles, AreRead, AreThere, AreUnopened, IsServed, IsWhole, LeavesAlone, NamesNoFile};
+ghost use Rattle.knxsec_app.specs.Commands.{answer_of, AreFiles, AreRead, AreThere, AreUnopened, IsServed, IsWhole, LeavesAlone, Plays};
 ghost use Rattle.knxsec_app.specs.Ends.{IsCounted};
 
 use crate::Status;
 use crate::obey::{obey, print_usage};
 use crate::words::read_words;
+use install_run::World;
 use knx_base::{Files, Sink};
 use std::alloc::Global;
 
@@ -20,10 +21,21 @@ use std::alloc::Global;
 /// - `audit TABLES FRAMES` judges the records of the file FRAMES under the tables of the file TABLES.
 /// - `audit-keyring KEYRING PASSWORDFILE TABLES FRAMES` does so under the rows of a keyring too, which the password in
 ///   the file PASSWORDFILE opens. What the tables say of a channel stands in place of what the keyring says of it.
+/// - `replay SCRIPT` steps an installation through the script in the file SCRIPT, and tells each step and how it ends.
+/// - `make NUMBER COUNT` does so with the script that is made from a number up to 4,294,967,295, of 1 to 100,000
+///   events, and tells what came of them in figures.
+///
+/// With Done of `replay` or `make` the world that was stepped stands in `played`, which no other command touches.
 ///
 /// The files are opened in the order of the words, each read to its end before the next. All other words are answered
 /// by the usage line.
-pub fn run<F: Files, S: Sink>(alloc: Global, words: &[String], files: &mut F, out: &mut S) -> Status
+pub fn run<F: Files, S: Sink>(
+    alloc: Global,
+    words: &[String],
+    files: &mut F,
+    out: &mut S,
+    played: &mut Option<World>,
+) -> Status
     // Where the files tell their names, each that the words name is one of them.
     requires there { ForSome (F.seen files.old).told (λ told. AreThere (command_of (map string_bytes words.now)) told) }
     ensures answer { (told : List File) → AreFiles (command_of (map string_bytes words.now)) (F.seen files.old) told
@@ -48,12 +60,14 @@ pub fn run<F: Files, S: Sink>(alloc: Global, words: &[String], files: &mut F, ou
     // A fault is answered where it was counted in this call, and nowhere else is one counted.
     ensures counted { IsCounted (F.seen files.old) (F.seen files.new) (S.faults out.old) (S.faults out.new) result }
 
-    // A command that names no file takes no memory and leaves the files alone.
-    ensures alone { NamesNoFile (command_of (map string_bytes words.now)) → LeavesAlone result }
-    ensures unread { NamesNoFile (command_of (map string_bytes words.now)) → files.new ≡ files.old }
+    // A command that names no file leaves the files alone, and one that opens a frame takes no memory.
+    ensures alone { LeavesAlone (command_of (map string_bytes words.now)) result (files.new ≡ files.old) }
+
+    // A replay leaves the world that it stepped. Every other command, and every other status, leaves what was there.
+    ensures played { Plays (command_of (map string_bytes words.now)) (F.seen files.old) result played.old played.new }
 {
     match read_words(words) {
-        Some(command) => obey(alloc, &command, files, out),
+        Some(command) => obey(alloc, &command, files, out, played),
         None => print_usage(out),
     }
 }

@@ -17,6 +17,7 @@ pub(crate) enum WholeFile {
     Tables,
     Keyring,
     Password,
+    Script,
 }
 
 impl WholeFile {
@@ -29,6 +30,7 @@ impl WholeFile {
             WholeFile::Tables => "tables",
             WholeFile::Keyring => "keyring",
             WholeFile::Password => "password",
+            WholeFile::Script => "script",
         }
     }
 
@@ -40,6 +42,7 @@ impl WholeFile {
             WholeFile::Tables => 4_194_304,
             WholeFile::Keyring => 4_194_304,
             WholeFile::Password => 4096,
+            WholeFile::Script => 16_777_216,
         }
     }
 

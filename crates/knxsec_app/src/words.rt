@@ -1,11 +1,13 @@
 ghost use Rattle.std.specs.Prelude.{◌≡◌, ◌∷◌, [], map};
 ghost use Rattle.std.specs.Option.{option_map};
 ghost use Rattle.std.specs.String.{string_bytes};
-ghost use Rattle.knxsec_app.specs.Words.{command_of, opening, octets_between};
+ghost use Rattle.knxsec_app.specs.Words.{command_of, count_of, making, number_of, opening, octets_between};
 ghost use Rattle.knxsec_app.specs.Asked.{asked_of};
 
+use crate::count_word::EventCount;
 use crate::frame_word::FrameWord;
 use hex::FromHex;
+use knx_base::read_decimal;
 
 /// What the words ask for.
 #[derive(Drop)]
@@ -16,6 +18,10 @@ pub(crate) enum Command<'a> {
     Audit { tables: &'a str, frames: &'a str },
     /// The same under the rows of a keyring too.
     AuditKeyring(KeyringNames<'a>),
+    /// To step an installation through a script.
+    Replay { script: &'a str },
+    /// The same with the script that is made from a number, of so many events.
+    Make { number: u32, count: EventCount },
 }
 
 /// The names of the files of an audit by a keyring.
@@ -40,35 +46,70 @@ fn read_key(word: &str) -> Option<[u8; 16]>
 pub(crate) fn read_words(words: &[String]) -> Option<Command<'_>>
     ensures asked { option_map asked_of result ≡ command_of (map string_bytes words.now) }
 {
-    if let [verb, first, second] = words {
-        return read_two(verb, first, second);
+    match words {
+        [verb, script] => read_one(verb, script),
+        [verb, first, second] => read_two(verb, first, second),
+        [verb, keyring, password, tables, frames] => {
+            let names = KeyringNames {
+                keyring,
+                password,
+                tables,
+                frames,
+            };
+            read_four(verb, names)
+        }
+        _ => None,
     }
-    let [verb, keyring, password, tables, frames] = words else {
-        return None;
-    };
-    if verb.as_str() != "audit-keyring" {
-        return None;
+}
+
+fn read_one<'a>(verb: &str, script: &'a str) -> Option<Command<'a>>
+    ensures asked { option_map asked_of result ≡ command_of (verb.now ∷ script.now ∷ []) }
+{
+    if verb == "replay" {
+        Some(Command::Replay { script })
+    } else {
+        None
     }
-    Some(Command::AuditKeyring(KeyringNames {
-        keyring,
-        password,
-        tables,
-        frames,
-    }))
+}
+
+fn read_four<'a>(verb: &str, names: KeyringNames<'a>) -> Option<Command<'a>>
+    ensures asked { option_map asked_of result ≡ command_of (verb.now ∷ names.entry.keyring.now
+        ∷ names.entry.password.now
+        ∷ names.entry.tables.now ∷ names.entry.frames.now ∷ []) }
+{
+    if verb == "audit-keyring" {
+        Some(Command::AuditKeyring(names))
+    } else {
+        None
+    }
 }
 
 fn read_two<'a>(verb: &str, first: &'a str, second: &'a str) -> Option<Command<'a>>
     ensures asked { option_map asked_of result ≡ command_of (verb.now ∷ first.now ∷ second.now ∷ []) }
 {
-    if verb == "open" {
-        return read_opening(first, second);
+    match verb {
+        "open" => read_opening(first, second),
+        "audit" => Some(Command::Audit {
+            tables: first,
+            frames: second,
+        }),
+        "make" => read_making(first, second),
+        _ => None,
     }
-    if verb != "audit" {
+}
+
+fn read_making<'a>(number: &str, count: &str) -> Option<Command<'a>>
+    ensures asked { option_map asked_of result ≡ making (number_of number.now) (count_of count.now) }
+{
+    let Some(number) = read_decimal(number, u32::MAX as u64) else {
         return None;
-    }
-    Some(Command::Audit {
-        tables: first,
-        frames: second,
+    };
+    let Some(count) = EventCount::read(count) else {
+        return None;
+    };
+    Some(Command::Make {
+        number: number as u32,
+        count,
     })
 }
 

@@ -79,7 +79,7 @@ fn audited(
     files.add("frames", frames.as_bytes())?;
     files.fail_at(failing)?;
     let mut out = MemSink::new(alloc, 30_000)?;
-    let status = run(alloc, &words, &mut files, &mut out);
+    let status = run(alloc, &words, &mut files, &mut out, &mut None);
     Ok((out, status))
 }
 
@@ -246,7 +246,7 @@ fn a_fault_before_the_first_line_leaves_nothing_written(rt: HostRuntime) -> Resu
     files.add("frames", b"")?;
     let mut out = MemSink::new(alloc, 1000)?;
     out.fail_at(1)?;
-    let status = run(alloc, &words, &mut files, &mut out);
+    let status = run(alloc, &words, &mut files, &mut out, &mut None);
     assert_eq!(rt; out.bytes(), b"".as_slice());
     assert_eq!(rt; status, Status::WriteFault);
     Ok(())
@@ -269,7 +269,7 @@ fn an_audit_of_the_host_s_files(rt: HostRuntime) -> Result<(), Fail> {
     let words = audit_words(rt.alloc())?;
     let mut files = HostFiles::new(&rt);
     let mut out = HostSink::new(&rt);
-    let status = run(rt.alloc(), &words, &mut files, &mut out);
+    let status = run(rt.alloc(), &words, &mut files, &mut out, &mut None);
     assert_eq!(rt; status, Status::Alarm);
     Ok(())
 }

@@ -132,7 +132,7 @@ fn audited(
     files.add("frames", frames.as_bytes())?;
     files.fail_at(failing)?;
     let mut out = MemSink::new(alloc, 1000)?;
-    let status = run(alloc, &words, &mut files, &mut out);
+    let status = run(alloc, &words, &mut files, &mut out, &mut None);
     Ok((out, status))
 }
 

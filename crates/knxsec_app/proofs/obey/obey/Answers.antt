@@ -44,3 +44,9 @@ returns-in-AuditKeyring-clause-unopened g c refused told are =
     (c.audit_by_keyring.ensures.unopened refused told (subst
     (λ command. AreFiles (Some (asked_of command)) (g.F.Files.seen c.args.files.now) told) c.in-AuditKeyring.is
     are))
+
+pub replay-requires : goal.replay-requires
+replay-requires g c = record {
+  there =
+      λ told is. subst (λ command. AreThere (Some (asked_of command)) told) c.in-Replay.is (c.requires.there told is);
+}
