@@ -38,6 +38,41 @@ const DEVICE: &str = "knx-script 1\n\
      object lamp 1/2/3 w bits 00\n\
      mark lamp run:1.1.7 500\n";
 
+// The nodes at the end of a run, with the front of their memories' octets and how many zeros stand behind.
+const PUSH: (&str, usize) = (
+    "node push running journal 0 reserved 64\n\
+     object 0 01\n\
+     lane run:1.1.7 kept 0\n\
+     image a50000000000000000000000000000000000000000a500000000000040",
+    269,
+);
+
+const LAMP: (&str, usize) = (
+    "node lamp running journal 0 reserved 0\n\
+     object 0 00\n\
+     lane run:1.1.7 kept 0\n\
+     image a50000000000000000000000000000000000000000",
+    277,
+);
+
+// It acted on the first telegram.
+const LAMP_LIT: (&str, usize) = (
+    "node lamp running journal 1 reserved 0\n\
+     object 0 01\n\
+     lane run:1.1.7 kept 1\n\
+     image a50000000000000000000000000000000000000000a501000000000001",
+    269,
+);
+
+// It kept the number of the first telegram, and did not act.
+const LAMP_DARK: (&str, usize) = (
+    "node lamp running journal 0 reserved 0\n\
+     object 0 00\n\
+     lane run:1.1.7 kept 1\n\
+     image a50000000000000000000000000000000000000000a501000000000001",
+    269,
+);
+
 // A script, and the pieces of its report, each with so many octets of zeros behind it: a memory begins with a bank of a
 // gate, a generation of eight octets, numbers of six, and records of a gate, an index and a number.
 #[derive(Drop)]
@@ -114,20 +149,11 @@ fn each_event_is_told_and_how_it_ends(rt: HostRuntime) -> Result<(), Fail> {
                      2 acted number 1 lane run:1.1.7 GroupValue_Write object 0 value 01\n\
                      3 stale kept 1 got 1\n\
                      4 lost\n\
-                     5 gone\n\
-                     node push running journal 0 reserved 64\n\
-                     object 0 01\n\
-                     lane run:1.1.7 kept 0\n\
-                     image a50000000000000000000000000000000000000000a500000000000040",
-                    269,
+                     5 gone\n",
+                    0,
                 ),
-                (
-                    "node lamp running journal 1 reserved 0\n\
-                     object 0 01\n\
-                     lane run:1.1.7 kept 1\n\
-                     image a50000000000000000000000000000000000000000a501000000000001",
-                    269,
-                ),
+                PUSH,
+                LAMP_LIT,
                 ("events 5 telegrams 1\n", 0),
             ],
         },
@@ -145,20 +171,11 @@ fn each_event_is_told_and_how_it_ends(rt: HostRuntime) -> Result<(), Fail> {
                      2 armed\n\
                      3 cut\n\
                      4 on next 1 run:1.1.7=0\n\
-                     5 acted number 1 lane run:1.1.7 GroupValue_Write object 0 value 01\n\
-                     node push running journal 0 reserved 64\n\
-                     object 0 01\n\
-                     lane run:1.1.7 kept 0\n\
-                     image a50000000000000000000000000000000000000000a500000000000040",
-                    269,
+                     5 acted number 1 lane run:1.1.7 GroupValue_Write object 0 value 01\n",
+                    0,
                 ),
-                (
-                    "node lamp running journal 1 reserved 0\n\
-                     object 0 01\n\
-                     lane run:1.1.7 kept 1\n\
-                     image a50000000000000000000000000000000000000000a501000000000001",
-                    269,
-                ),
+                PUSH,
+                LAMP_LIT,
                 ("events 5 telegrams 1\n", 0),
             ],
         },
@@ -176,20 +193,11 @@ fn each_event_is_told_and_how_it_ends(rt: HostRuntime) -> Result<(), Fail> {
                      2 armed\n\
                      3 cut\n\
                      4 on next 1 run:1.1.7=1\n\
-                     5 stale kept 1 got 1\n\
-                     node push running journal 0 reserved 64\n\
-                     object 0 01\n\
-                     lane run:1.1.7 kept 0\n\
-                     image a50000000000000000000000000000000000000000a500000000000040",
-                    269,
+                     5 stale kept 1 got 1\n",
+                    0,
                 ),
-                (
-                    "node lamp running journal 0 reserved 0\n\
-                     object 0 00\n\
-                     lane run:1.1.7 kept 1\n\
-                     image a50000000000000000000000000000000000000000a501000000000001",
-                    269,
-                ),
+                PUSH,
+                LAMP_DARK,
                 ("events 5 telegrams 1\n", 0),
             ],
         },
@@ -213,20 +221,11 @@ fn each_event_is_told_and_how_it_ends(rt: HostRuntime) -> Result<(), Fail> {
                      5 armed\n\
                      6 cut\n\
                      7 on next 1 run:1.1.7=0\n\
-                     8 acted number 1 lane run:1.1.7 GroupValue_Write object 0 value 01\n\
-                     node push running journal 0 reserved 64\n\
-                     object 0 01\n\
-                     lane run:1.1.7 kept 0\n\
-                     image a50000000000000000000000000000000000000000a500000000000040",
-                    269,
+                     8 acted number 1 lane run:1.1.7 GroupValue_Write object 0 value 01\n",
+                    0,
                 ),
-                (
-                    "node lamp running journal 1 reserved 0\n\
-                     object 0 01\n\
-                     lane run:1.1.7 kept 1\n\
-                     image a50000000000000000000000000000000000000000a501000000000001",
-                    269,
-                ),
+                PUSH,
+                LAMP_LIT,
                 ("events 8 telegrams 1\n", 0),
             ],
         },
@@ -248,13 +247,10 @@ fn each_event_is_told_and_how_it_ends(rt: HostRuntime) -> Result<(), Fail> {
                      4 armed\n\
                      5 cut\n\
                      6 on next 1 run:1.1.7=1\n\
-                     7 acted number 2 lane run:1.1.7 GroupValue_Write object 0 value 01\n\
-                     node push running journal 0 reserved 64\n\
-                     object 0 01\n\
-                     lane run:1.1.7 kept 0\n\
-                     image a50000000000000000000000000000000000000000a500000000000040",
-                    269,
+                     7 acted number 2 lane run:1.1.7 GroupValue_Write object 0 value 01\n",
+                    0,
                 ),
+                PUSH,
                 (
                     "node lamp running journal 2 reserved 0\n\
                      object 0 01\n\
@@ -279,20 +275,17 @@ fn each_event_is_told_and_how_it_ends(rt: HostRuntime) -> Result<(), Fail> {
                      2 down\n\
                      3 off\n\
                      4 on next 65 run:1.1.7=0\n\
-                     5 air 2 number 65\n\
-                     node push running journal 0 reserved 128\n\
+                     5 air 2 number 65\n",
+                    0,
+                ),
+                (
+                    "node push running journal 0 reserved 128\n\
                      object 0 01\n\
                      lane run:1.1.7 kept 0\n\
                      image a50000000000000000000000000000000000000000a500000000000040a500000000000080",
                     261,
                 ),
-                (
-                    "node lamp running journal 0 reserved 0\n\
-                     object 0 00\n\
-                     lane run:1.1.7 kept 0\n\
-                     image a50000000000000000000000000000000000000000",
-                    277,
-                ),
+                LAMP,
                 ("events 5 telegrams 2\n", 0),
             ],
         },
@@ -304,20 +297,17 @@ fn each_event_is_told_and_how_it_ends(rt: HostRuntime) -> Result<(), Fail> {
             report: &[
                 (
                     "1 air 1 number 281474976710655\n\
-                     2 exhausted\n\
-                     node push running journal 0 reserved 281474976710655\n\
+                     2 exhausted\n",
+                    0,
+                ),
+                (
+                    "node push running journal 0 reserved 281474976710655\n\
                      object 0 01\n\
                      lane run:1.1.7 kept 0\n\
                      image a50000000000000000fffffffffffe000000000000a500ffffffffffff",
                     269,
                 ),
-                (
-                    "node lamp running journal 0 reserved 0\n\
-                     object 0 00\n\
-                     lane run:1.1.7 kept 0\n\
-                     image a50000000000000000000000000000000000000000",
-                    277,
-                ),
+                LAMP,
                 ("events 2 telegrams 1\n", 0),
             ],
         },
@@ -335,20 +325,11 @@ fn each_event_is_told_and_how_it_ends(rt: HostRuntime) -> Result<(), Fail> {
                      2 air 1 number 1\n\
                      3 fault\n\
                      4 off\n\
-                     5 on next 1 run:1.1.7=0\n\
-                     node push running journal 0 reserved 64\n\
-                     object 0 01\n\
-                     lane run:1.1.7 kept 0\n\
-                     image a50000000000000000000000000000000000000000a500000000000040",
-                    269,
+                     5 on next 1 run:1.1.7=0\n",
+                    0,
                 ),
-                (
-                    "node lamp running journal 0 reserved 0\n\
-                     object 0 00\n\
-                     lane run:1.1.7 kept 0\n\
-                     image a50000000000000000000000000000000000000000",
-                    277,
-                ),
+                PUSH,
+                LAMP,
                 ("events 5 telegrams 1\n", 0),
             ],
         },
@@ -372,8 +353,11 @@ fn each_event_is_told_and_how_it_ends(rt: HostRuntime) -> Result<(), Fail> {
                      5 synced number 1 kept 500 next 501\n\
                      6 no-pending\n\
                      7 air 4 number 501\n\
-                     8 acted number 501 lane run:1.1.7 GroupValue_Write object 0 value 01\n\
-                     node push running journal 0 reserved 564\n\
+                     8 acted number 501 lane run:1.1.7 GroupValue_Write object 0 value 01\n",
+                    0,
+                ),
+                (
+                    "node push running journal 0 reserved 564\n\
                      object 0 01\n\
                      lane run:1.1.7 kept 0\n\
                      lane tool:1.1.9:1.1.9 kept 1\n\
