@@ -52,7 +52,7 @@ pub up_raise : (r : Raise) (n : Numbers) → IsUp r n → NumbersUp n (after_rai
 up_raise (Reserve k) n up = record { reserved = up; marks = λ lane. omega arith }
 up_raise (Mark lane k) n up = record { reserved = omega arith; marks = λ i. mark_up n.marks lane k i up }
 
-same_lanes : (r : Raise) (n : Numbers) → length (after_raise r n).marks ≡ length n.marks
+pub same_lanes : (r : Raise) (n : Numbers) → length (after_raise r n).marks ≡ length n.marks
 same_lanes (Reserve k) n = refl
 same_lanes (Mark lane k) n = length-set n.marks lane k
 

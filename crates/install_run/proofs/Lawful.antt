@@ -13,6 +13,7 @@ use Rattle.install_run.proofs.Marking.{marks_kept}
 use Rattle.install_run.proofs.Journalling.{exceeds_marks, journal_rises}
 use Rattle.install_run.proofs.Valuing.{by_journal}
 use Rattle.install_run.proofs.Counting.{numbers_since}
+use Rattle.install_run.proofs.Legality.{legal}
 use Rattle.install_run.proofs.Verifying.{acts_on_verified}
 use Rattle.install_run.proofs.Delivering.{acts_on_all_deliverable}
 
@@ -26,6 +27,7 @@ keeps_laws rows nodes places air history w run is = subst KeepsLaws is (record {
   acts = λ place row. exceeds_marks rows nodes (world_in places air) history place row run.run run.held;
   journals = λ place row. journal_rises rows nodes (world_in places air) history place row run.run run.held;
   objects = λ place row. by_journal rows nodes (world_in places air) history place row run.run;
+  legal = legal rows nodes (world_in places air) history run.run run.held;
   verifies = acts_on_verified;
   delivers = λ steps node.
       acts_on_all_deliverable rows nodes (world_in places air) history steps node run.run run.held;

@@ -13,6 +13,9 @@ mod Delivering
 mod Verifying
 mod Valuing
 mod Counting
+mod Disarming
+mod Answering
+mod Legality
 mod Lawful
 mod Ending
 mod Summing

@@ -280,6 +280,8 @@ turn_at (event.Fault node write torn) w place at =
 pub record IsSteppedAt (e : Event) (w : WorldAt) (place : ℕ) : Type 0 where
   pub steps : StepsTo e w.air (node_in w place) (step_of e w).outcome (node_in (after e w) place)
   pub config : (node_in (after e w) place).config ≡ (node_in w place).config
+  pub turn_is : turn_of e w ≡ with_turn place (node_turn e w.air (node_in w place) (node_in w place).standing) w
+  pub now_is : node_in (after e w) place ≡ (node_turn e w.air (node_in w place) (node_in w place).standing).node
 
 pub stepped_at : (e : Event) (w : WorldAt) (place : ℕ) → place_of e ≡ Some place → place < length w.nodes
     → IsSteppedAt e w place
@@ -294,9 +296,11 @@ stepped_at e w place at below =
       steps = subst (λ o. StepsTo e w.air n o (node_in (after e w) place)) (sym said)
           (subst (λ n'. StepsTo e w.air n turn.outcome n') (sym now) (steps e w.air n place at));
       config = ap (λ (n : NodeAt). n.config) now ∙ same_config e w.air n;
+      turn_is = is;
+      now_is = now;
     }
 
-no_place : (e : Event) (w : WorldAt) → place_of e ≡ None → (after e w).nodes ≡ w.nodes
+pub no_place : (e : Event) (w : WorldAt) → place_of e ≡ None → (after e w).nodes ≡ w.nodes
 no_place (event.Set node object value) w none = absurd cc
 no_place (event.Send node object service) w none = absurd cc
 no_place (event.ToolSend node to apdu) w none = absurd cc

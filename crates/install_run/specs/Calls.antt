@@ -1,4 +1,4 @@
--- What an event asks of a node that runs, if its memory lets it. This is plumbing for proofs.
+-- What an event asks of a node that runs, if its memory lets it. This is statement.
 use Rattle.std.specs.Prelude.{ℕ, List, length, Option, Some, None}
 use Rattle.node_core.specs.Receiving.{receive_transition}
 use Rattle.node_core.specs.Sending.{send_transition, tool_transition, ask_transition, set_transition}

@@ -1,11 +1,12 @@
 -- What holds of every history. This is statement; the words are those of Histories, Marks, Journals, Values, Since,
--- Passing, Verified and Deliverable.
+-- Legal, Passing, Verified and Deliverable.
 use Rattle.std.specs.Prelude.{◌≡◌, ℕ, take, slice_get, Some}
 use Rattle.script_text.specs.declared.node_row.NodeRow.{NodeRow}
 use Rattle.install_run.specs.Deliverable.{ActsOnDeliverable}
 use Rattle.install_run.specs.First.{first_world}
 use Rattle.install_run.specs.Histories.{DrawsOnce}
 use Rattle.install_run.specs.Journals.{ExceedsMarks, JournalRises}
+use Rattle.install_run.specs.Legal.{IsLegal}
 use Rattle.install_run.specs.Marks.{NoMarkFalls}
 use Rattle.install_run.specs.Origin.{IsRunOf, events_of}
 use Rattle.install_run.specs.Machine.{WorldAt}
@@ -58,6 +59,10 @@ NumbersFollow w =
     (place : ℕ) (row : NodeRow) → slice_get w.nodes place ≡ Some row
     → HasNumbersSince place row (events_of w.history) (first_world w.rows w.nodes) w.world
 
+-- Each step of the history is allowed after those before it.
+abbrev pub OnlyAllowed : WorldState → Type 0
+OnlyAllowed w = IsLegal w.rows w.nodes w.history
+
 pub record KeepsLaws (w : WorldState) : Type 0 where
   pub comes : ComesOfScript w
   pub draws : NoNumberTwice w
@@ -65,6 +70,7 @@ pub record KeepsLaws (w : WorldState) : Type 0 where
   pub acts : ActsAbove w
   pub journals : JournalsRise w
   pub objects : ObjectsFollow w
+  pub legal : OnlyAllowed w
   -- in each state of an installation, so in each of this history
   pub verifies : (at : WorldAt) → ActsOnVerified at
   pub delivers : ActsOnAllDeliverable w

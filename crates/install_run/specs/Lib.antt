@@ -10,6 +10,7 @@ pub mod Deliverable
 pub mod Verified
 pub mod Since
 pub mod Values
+pub mod Legal
 pub mod Laws
 pub mod Air
 pub mod Counts
