@@ -1,4 +1,5 @@
 -- Every history is legal: by its steps, with what it tells beside what is there.
+use Rattle.std.specs.Option.{is_some}
 use Rattle.std.proofs.Common.{◌≡◌, ◌≢◌, inl, inr, ℕ, ◌+◌, ◌-◌, ◌<◌, List, [], ◌∷◌, ◌++◌, length, set, get_or, Bool, true, false, Option, Some, None, refl, sym, ap, ◌∙◌, subst, arith}
 use Rattle.std.specs.Prelude.{slice_get}
 use Rattle.std.proofs.lemmas.Bool.{cases_eq, cases_lt}
@@ -8,6 +9,7 @@ use Rattle.key_tables.specs.declared.types.Row.{Row}
 use Rattle.nvm_model.specs.Plan.{Struck, strike}
 use Rattle.nvm_model.specs.declared.fault.NvmFault.{NvmFault}
 use Rattle.nvm_model.specs.declared.fault.NvmFault.TheVariants as nvm
+use Rattle.nvm_model.specs.declared.plan.Armed.{Armed}
 use Rattle.nvm_model.specs.declared.plan.Plan.{Plan}
 use Rattle.seq_store.specs.Layout.{store_size}
 use Rattle.seq_store.specs.Runs.{Numbers, Raise, RestoresSome, numbers_in, writes_of, after_raise}
@@ -26,10 +28,11 @@ use Rattle.step_text.specs.declared.outcome.StepOutcome.{StepOutcome}
 use Rattle.step_text.specs.declared.outcome.StepOutcome.TheVariants as outcome
 use Rattle.install_run.specs.Calls.{deliver_call, call_of}
 use Rattle.install_run.specs.First.{first_node, first_world}
+use Rattle.install_run.specs.Fitting.{told_by_all, NodeFits, WorldFits}
 use Rattle.install_run.specs.Legal.{ToldNode, Told, no_told, told_in, first_told_node, first_told, call_tells, node_tells, node_sends, air_after, told_by, told_after, AllowsCall, AreLeft, AllowsAt, AllowsOnAir, AllowsBy, AreAllowed, IsLegal}
 use Rattle.install_run.specs.Machine.{TelegramAt, WorldAt, WorldTurn, telegram_in, heard, node_in, no_node, has_telegram, telegrams_of, lose_outcome}
 use Rattle.install_run.specs.Origin.{IsInstallation, events_of, HoldsAfter, AreHeld, IsRunOf}
-use Rattle.install_run.specs.Runs.{place_of, is_at, after, step_of, history_of}
+use Rattle.install_run.specs.Runs.{place_of, is_at, after, step_of, world_after, history_of}
 use Rattle.install_run.specs.Slot.{IsSound}
 use Rattle.install_run.specs.Turn.{NodeAt, Turn, stays, struck_by, turn_by, set_told, send_told, receive_told, receive_turn}
 use Rattle.install_run.proofs.Answering.{is_stop, goes_on, send_on, tool_on, ask_on, set_on, receive_on}
@@ -43,16 +46,21 @@ use Rattle.install_run.proofs.Steps.{IsSteppedAt, node_turn, stepped_at, stays_a
 
 -- ---- what is told beside what is there
 
--- Nothing is armed that is not told.
+-- A cut is armed exactly where that is told, and no fault that is not told.
 record IsArmedAsTold (told_cut told_fault : Bool) (plan : Plan) : Type 0 where
-  cut : told_cut ≡ false → plan.cut ≡ None
+  cut : told_cut ≡ is_some plan.cut
   fault : told_fault ≡ false → plan.fault ≡ None
+
+-- An image restores what some of these raises left of these numbers, which are of so many lanes.
+record HasLeft (raises : List Raise) (numbers : Numbers) (lanes : ℕ) (image : List ℕ) : Type 0 where
+  some : RestoresSome raises numbers image
+  each_lane : length numbers.marks ≡ lanes
 
 record Matches (t : ToldNode) (n : NodeAt) : Type 0 where
   config : t.config ≡ n.config
   standing : t.standing ≡ n.standing
   armed : IsArmedAsTold t.cut t.fault n.plan
-  rests : n.standing ≡ None → AreLeft t.raises t.stopped (numbers_in (length n.config.lanes) n.octets)
+  rests : n.standing ≡ None → HasLeft t.raises t.stopped (length n.config.lanes) n.octets
 
 -- A turn is allowed, and leaves a node as it is told then, with the telegrams that are told.
 record Follows (allowed : Type 0) (t : ToldNode) (sent : List TelegramAt) (turn : Turn) : Type 0 where
@@ -80,9 +88,13 @@ left_by (r ∷ raises) numbers image (inr rest) =
 
 -- ---- a call of a node that runs
 
-told_armed : {A : Type 0} (told : Bool) (armed : Option A) → (told ≡ false → armed ≡ None) → armed ≢ None → told ≡ true
-told_armed true armed none some = refl
-told_armed false armed none some = absurd (some (none refl))
+cut_told : (told : Bool) (armed : Option Armed) → told ≡ is_some armed → armed ≢ None → told ≡ true
+cut_told told None is some = absurd (some refl)
+cut_told told (Some armed) is some = is
+
+fault_told : (told : Bool) (armed : Option Armed) → (told ≡ false → armed ≡ None) → armed ≢ None → told ≡ true
+fault_told true armed none some = refl
+fault_told false armed none some = absurd (some (none refl))
 
 module _ {A : Type 0} (call : Transition A) (told : A → StepOutcome) (t : ToldNode) (s : Standing) (octets : List ℕ)
     (plan : Plan) (powered : Bool) where
@@ -96,8 +108,7 @@ module _ {A : Type 0} (call : Transition A) (told : A → StepOutcome) (t : Told
 
   called_by : (answer : Option NvmFault) (struck : Struck) → is_stop (told call.outcome) ≡ false
       → IsArmedAsTold t.cut t.fault plan → Disarms plan answer struck.plan → (call.raises ≡ [] → answer ≡ None)
-      → AreLeft call.raises s.numbers
-      (numbers_in (length t.config.lanes) (turn_by answer struck call told There).node.octets)
+      → HasLeft call.raises s.numbers (length t.config.lanes) (turn_by answer struck call told There).node.octets
       → CallFollows (turn_by answer struck call told There)
   called_by None struck goes armed disarmed none left =
       subst (λ t'. Follows (AllowsCall (told call.outcome) (told_as told call) t) t'
@@ -109,7 +120,7 @@ module _ {A : Type 0} (call : Transition A) (told : A → StepOutcome) (t : Told
           config = refl;
           standing = refl;
           armed = record {
-            cut = λ is. disarmed.cut_none (armed.cut is);
+            cut = armed.cut ∙ sym (disarmed.cut_kept (λ is. absurd cc));
             fault = λ is. disarmed.fault_none (armed.fault is);
           };
           rests = λ is. absurd cc;
@@ -119,13 +130,13 @@ module _ {A : Type 0} (call : Transition A) (told : A → StepOutcome) (t : Told
   called_by (Some nvm.Cut) struck goes armed disarmed none left = record {
     allowed_is = inr (record {
       raises = λ is. let no : Some nvm.Cut ≡ None = none is in absurd cc;
-      armed = inl (refl, told_armed t.cut plan.cut armed.cut (λ is. disarmed.no_cut is refl));
+      armed = inl (refl, cut_told t.cut plan.cut armed.cut (λ is. disarmed.no_cut is refl));
     });
     matches = record {
       config = refl;
       standing = refl;
       armed = record {
-        cut = λ is. disarmed.cut_struck refl;
+        cut = ap is_some (sym (disarmed.cut_struck refl));
         fault = λ is. disarmed.fault_none (armed.fault is);
       };
       rests = λ is. left;
@@ -135,13 +146,13 @@ module _ {A : Type 0} (call : Transition A) (told : A → StepOutcome) (t : Told
   called_by (Some nvm.Failed) struck goes armed disarmed none left = record {
     allowed_is = inr (record {
       raises = λ is. let no : Some nvm.Failed ≡ None = none is in absurd cc;
-      armed = inr (refl, told_armed t.fault plan.fault armed.fault (λ is. disarmed.no_fault is refl));
+      armed = inr (refl, fault_told t.fault plan.fault armed.fault (λ is. disarmed.no_fault is refl));
     });
     matches = record {
       config = refl;
       standing = refl;
       armed = record {
-        cut = λ is. disarmed.cut_none (armed.cut is);
+        cut = armed.cut ∙ sym (disarmed.cut_kept (λ is. absurd cc));
         fault = λ is. disarmed.fault_struck refl;
       };
       rests = λ is. left;
@@ -151,7 +162,7 @@ module _ {A : Type 0} (call : Transition A) (told : A → StepOutcome) (t : Told
 
   called : is_stop (told call.outcome) ≡ false → IsArmedAsTold t.cut t.fault plan
       → (let struck = struck_by call s There in let turn = turn_by struck.answer struck call told There in
-      AreLeft call.raises s.numbers (numbers_in (length t.config.lanes) turn.node.octets) → CallFollows turn)
+      HasLeft call.raises s.numbers (length t.config.lanes) turn.node.octets → CallFollows turn)
   called goes armed left =
       let lanes = length s.numbers.marks in
       let struck = struck_by call s There in
@@ -171,8 +182,8 @@ FollowsAt e told air t n =
 abbrev Leaves : Event → List TelegramAt → NodeAt → Type 0
 Leaves e air n =
     (s : Standing) → n.standing ≡ Some s
-    → AreLeft (call_of e air n.config s).raises s.numbers
-    (numbers_in (length n.config.lanes) (node_turn e air n n.standing).node.octets)
+    → HasLeft (call_of e air n.config s).raises s.numbers (length n.config.lanes)
+    (node_turn e air n n.standing).node.octets
 
 rested : (t : ToldNode) (n : NodeAt) → Matches t n → Follows (outcome.Off ≡ outcome.Off) t [] (stays outcome.Off n)
 rested t n m = record { allowed_is = refl; matches = m; sent_is = refl }
@@ -181,7 +192,7 @@ delivered : (count : ℕ) (t : ToldNode) (s : Standing) (octets : List ℕ) (pla
     (hears : Option (List ℕ))
     → (let t = running t s in let n = at_told t (Some s) octets plan powered in
     let call = deliver_call count t.config s hears in let turn = receive_turn count hears n (Some s) in
-    Matches t n → AreLeft call.raises s.numbers (numbers_in (length t.config.lanes) turn.node.octets)
+    Matches t n → HasLeft call.raises s.numbers (length t.config.lanes) turn.node.octets
     → Follows (AllowsCall turn.outcome call t) (call_tells turn.outcome call s t)
     (telegrams_of (has_telegram turn.outcome) (handed call.frame [])) turn)
 delivered count t s octets plan powered None m left = record { allowed_is = inl refl; matches = m; sent_is = refl }
@@ -222,9 +233,15 @@ turned (event.Off node) place at air t (Some s) octets plan powered m left = rec
 }
 turned (event.On node) place at air t None octets plan powered m left =
     let found : Numbers = numbers_in (length t.config.lanes) octets in
+    let left = m.rests refl in
     let reserved_is : found.reserved + 1 - 1 ≡ found.reserved = omega arith in
     record {
-      allowed_is = record { found = found; left = m.rests refl; said_is = refl };
+      allowed_is = record {
+        found = found;
+        left = subst (λ lanes. AreLeft t.raises t.stopped (numbers_in lanes octets)) left.each_lane
+            (left_by t.raises t.stopped octets left.some);
+        said_is = refl;
+      };
       matches = record {
         config = refl;
         standing = ap (λ r. Some (started t.config (record { reserved = r; marks = found.marks }))) reserved_is;
@@ -240,7 +257,7 @@ turned (event.Cut node write torn) place at air t None octets plan powered m lef
   matches = record {
     config = refl;
     standing = refl;
-    armed = record { cut = λ is. absurd cc; fault = m.armed.fault };
+    armed = record { cut = refl; fault = m.armed.fault };
     rests = m.rests;
   };
   sent_is = refl;
@@ -250,7 +267,7 @@ turned (event.Cut node write torn) place at air t (Some s) octets plan powered m
   matches = record {
     config = refl;
     standing = refl;
-    armed = record { cut = λ is. absurd cc; fault = m.armed.fault };
+    armed = record { cut = refl; fault = m.armed.fault };
     rests = m.rests;
   };
   sent_is = refl;
@@ -303,10 +320,9 @@ leaves_at e w told place at as_told held s is =
     let raises : List Raise = (call_of e w.air n.config s).raises in
     let some : RestoresSome raises s.numbers n'.octets = subst (λ rs. RestoresSome rs s.numbers n'.octets)
     (sym (same_raises e w.air n.config s)) ((held place at).raised.some s is) in
-    subst (λ (n' : NodeAt). AreLeft raises s.numbers (numbers_in (length n.config.lanes) n'.octets))
+    subst (λ (n' : NodeAt). HasLeft raises s.numbers (length n.config.lanes) n'.octets)
     (stepped_at e w place at below).now_is
-    (subst (λ lanes. AreLeft raises s.numbers (numbers_in lanes n'.octets))
-    (as_told.stand place below s is).each_lane (left_by raises s.numbers n'.octets some))
+    (record { some = some; each_lane = (as_told.stand place below s is).each_lane })
 
 follows_at : (e : Event) (w : WorldAt) (told : Told) (place : ℕ) → place_of e ≡ Some place → IsAsTold w told
     → HoldsAfter e w → FollowsAt e told.air w.air (told_in told place) (node_in w place)
@@ -409,6 +425,13 @@ legal_from (e ∷ events) w told held as_told = (
       (told_step e w told (place_of e) refl as_told held.0),
 )
 
+told_from : (events : List Event) (w : WorldAt) (told : Told) → AreHeld events w → IsAsTold w told
+    → IsAsTold (world_after events w) (told_by_all (history_of events w) told)
+told_from [] w told held as_told = as_told
+told_from (e ∷ events) w told held as_told =
+    told_from events (after e w) (told_after (step_of e w) told) held.1
+    (told_step e w told (place_of e) refl as_told held.0)
+
 -- ---- from the first world on
 
 record FirstAsTold (t : ToldNode) (n : NodeAt) : Type 0 where
@@ -429,7 +452,7 @@ first_by_row rows nodes place row installation is =
           (subst (Matches (first_told_node rows row)) (sym at.node_is) (record {
             config = refl;
             standing = refl;
-            armed = record { cut = λ is. refl; fault = λ is. refl };
+            armed = record { cut = refl; fault = λ is. refl };
             rests = λ is. absurd cc;
           }));
       stand = λ s now. (at.fits.runs s now).stands;
@@ -461,3 +484,30 @@ legal rows nodes w history run held =
     subst (IsLegal rows nodes) (sym run.history_is)
     (legal_from (events_of history) (first_world rows nodes) (first_told rows nodes) held
     (first_as_told rows nodes run.installation))
+
+-- ---- the memories
+
+fits_node : (t : ToldNode) (n : NodeAt) → Matches t n → AllStand n → NodeFits t n
+fits_node t n m stand = record {
+  standing = sym m.standing;
+  runs = λ s is. (stand s (sym m.standing ∙ is)).restores;
+  rests = λ none. (m.rests (sym m.standing ∙ none)).some;
+  cut = sym m.armed.cut;
+  fault = m.armed.fault;
+}
+
+pub fits : (rows : List Row) (nodes : List NodeRow) (w : WorldAt) (history : List Step) → IsRunOf rows nodes w history
+    → AreHeld (events_of history) (first_world rows nodes)
+    → WorldFits (told_by_all history (first_told rows nodes)) w
+fits rows nodes w history run held =
+    let first : WorldAt = first_world rows nodes in
+    let told : Told = told_by_all (history_of (events_of history) first) (first_told rows nodes) in
+    let last : IsAsTold (world_after (events_of history) first) told =
+    told_from (events_of history) first (first_told rows nodes) held (first_as_told rows nodes run.installation) in
+    let now : IsAsTold w told = subst (λ w. IsAsTold w told) (sym run.world_is) last in
+    subst (λ h. WorldFits (told_by_all h (first_told rows nodes)) w) (sym run.history_is) (record {
+      size = now.size;
+      each = λ place below. fits_node (told_in told place) (node_in w place) (now.each place below)
+          (now.stand place below);
+      air = now.air;
+    })

@@ -16,6 +16,7 @@ mod Counting
 mod Disarming
 mod Answering
 mod Legality
+mod Calming
 mod Lawful
 mod Ending
 mod Summing

@@ -1,17 +1,19 @@
--- What holds of every history. This is statement; the words are those of Histories, Marks, Journals, Values, Since,
--- Legal, Passing, Verified and Deliverable.
+-- What holds of every history. This is statement; the words are those of Histories, Marks, Journals, Values, Passing,
+-- Verified and Deliverable, and of Legal, Fitting, Starting and Since.
 use Rattle.std.specs.Prelude.{◌≡◌, ℕ, take, slice_get, Some}
 use Rattle.script_text.specs.declared.node_row.NodeRow.{NodeRow}
 use Rattle.install_run.specs.Deliverable.{ActsOnDeliverable}
 use Rattle.install_run.specs.First.{first_world}
 use Rattle.install_run.specs.Histories.{DrawsOnce}
 use Rattle.install_run.specs.Journals.{ExceedsMarks, JournalRises}
-use Rattle.install_run.specs.Legal.{IsLegal}
+use Rattle.install_run.specs.Fitting.{told_by_all, WorldFits}
+use Rattle.install_run.specs.Legal.{first_told, IsLegal}
 use Rattle.install_run.specs.Marks.{NoMarkFalls}
 use Rattle.install_run.specs.Origin.{IsRunOf, events_of}
 use Rattle.install_run.specs.Machine.{WorldAt}
 use Rattle.install_run.specs.Runs.{world_after}
 use Rattle.install_run.specs.Since.{HasNumbersSince}
+use Rattle.install_run.specs.Starting.{NoneArms, AllStartAsKept}
 use Rattle.install_run.specs.Values.{ObjectsByJournal}
 use Rattle.install_run.specs.Verified.{ActsOnVerified}
 use Rattle.install_run.specs.World.{WorldState}
@@ -53,16 +55,6 @@ state_after steps w = world_after (take steps (events_of w.history)) (first_worl
 abbrev pub ActsOnAllDeliverable : WorldState → Type 0
 ActsOnAllDeliverable w = (steps node : ℕ) → ActsOnDeliverable (state_after steps w) node
 
--- Each node that runs has the numbers of its steps since its last start.
-abbrev pub NumbersFollow : WorldState → Type 0
-NumbersFollow w =
-    (place : ℕ) (row : NodeRow) → slice_get w.nodes place ≡ Some row
-    → HasNumbersSince place row (events_of w.history) (first_world w.rows w.nodes) w.world
-
--- Each step of the history is allowed after those before it.
-abbrev pub OnlyAllowed : WorldState → Type 0
-OnlyAllowed w = IsLegal w.rows w.nodes w.history
-
 pub record KeepsLaws (w : WorldState) : Type 0 where
   pub comes : ComesOfScript w
   pub draws : NoNumberTwice w
@@ -70,7 +62,33 @@ pub record KeepsLaws (w : WorldState) : Type 0 where
   pub acts : ActsAbove w
   pub journals : JournalsRise w
   pub objects : ObjectsFollow w
-  pub legal : OnlyAllowed w
   -- in each state of an installation, so in each of this history
   pub verifies : (at : WorldAt) → ActsOnVerified at
   pub delivers : ActsOnAllDeliverable w
+
+-- ---- by the rules
+
+-- Each step of the history is allowed after those before it.
+abbrev pub OnlyAllowed : WorldState → Type 0
+OnlyAllowed w = IsLegal w.rows w.nodes w.history
+
+-- What the history tells is what there is, and the memories fit it.
+abbrev pub TellsWhatIs : WorldState → Type 0
+TellsWhatIs w = WorldFits (told_by_all w.history (first_told w.rows w.nodes)) w.world
+
+-- Where no cut and no fault is ever armed each start tells what was kept and reserved.
+abbrev pub StartsGoOn : WorldState → Type 0
+StartsGoOn w = NoneArms w.history → AllStartAsKept w.history (first_told w.rows w.nodes)
+
+-- Each node that runs has the numbers of its steps since its last start.
+abbrev pub NumbersFollow : WorldState → Type 0
+NumbersFollow w =
+    (place : ℕ) (row : NodeRow) → slice_get w.nodes place ≡ Some row
+    → HasNumbersSince place row (events_of w.history) (first_world w.rows w.nodes) w.world
+
+-- It goes by the rules, which read the outcomes alone.
+pub record GoesByRules (w : WorldState) : Type 0 where
+  pub legal : OnlyAllowed w
+  pub fits : TellsWhatIs w
+  pub starts : StartsGoOn w
+  pub numbers : NumbersFollow w

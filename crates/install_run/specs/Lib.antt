@@ -11,6 +11,8 @@ pub mod Verified
 pub mod Since
 pub mod Values
 pub mod Legal
+pub mod Fitting
+pub mod Starting
 pub mod Laws
 pub mod Air
 pub mod Counts

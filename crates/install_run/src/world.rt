@@ -2,7 +2,7 @@ ghost use Rattle.std.specs.Prelude.{◌≡◌, ◌<◌, ◌-◌, ◌+◌, ◌^�
 ghost use Rattle.std.specs.List.{All};
 ghost use Rattle.script_text.specs.Script.{IsEvent};
 ghost use Rattle.install_run.specs.First.{IsFirst};
-ghost use Rattle.install_run.specs.Laws.{KeepsLaws, NumbersFollow};
+ghost use Rattle.install_run.specs.Laws.{GoesByRules, KeepsLaws};
 ghost use Rattle.install_run.specs.World.{IsStepped, HasRun, KeepsScript};
 
 mod laws;
@@ -92,7 +92,7 @@ impl World {
         ensures begun { OnErr result ((taken : ℕ) × HasRun (take taken events.now) self.old self.new) }
         ensures script { KeepsScript self.old self.new }
         ensures laws { OnOk result (KeepsLaws self.new) }
-        ensures numbers { OnOk result (NumbersFollow self.new) }
+        ensures rules { OnOk result (GoesByRules self.new) }
     {
         for event in events {
             self.step(event)?;
