@@ -8,7 +8,7 @@ use Rattle.script_text.specs.Text.{script_of}
 use Rattle.script_text.specs.Made.{made_script}
 use Rattle.step_text.specs.declared.outcome.Step.{Step}
 use Rattle.install_run.specs.First.{first_world}
-use Rattle.install_run.specs.Laws.{KeepsLaws}
+use Rattle.install_run.specs.Laws.{GoesByRules, KeepsLaws}
 use Rattle.install_run.specs.Machine.{WorldAt}
 use Rattle.install_run.specs.Runs.{world_after, history_of}
 use Rattle.install_run.specs.Report.{run_text}
@@ -52,12 +52,13 @@ pub record HasPlayed (s : ScriptState) (w : WorldState) : Type 0 where
 
 -- Such a world is what was played. It keeps the laws of every history: no node seals twice under one number, what a
 -- node acts on verified and was above each number kept on its lane, what is deliverable is acted on unless a cut or a
--- fault strikes, and objects change exactly by the journal.
+-- fault strikes, and objects change exactly by the journal. And each of its steps is allowed after those before it.
 pub record IsPlayed (s : ScriptState) (played : Option WorldState) : Type 0 where
   pub world : WorldState
   pub is_world : played ≡ Some world
   pub has_played : HasPlayed s world
   pub keeps : KeepsLaws world
+  pub rules : GoesByRules world
 
 -- ---- answers
 

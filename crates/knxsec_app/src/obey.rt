@@ -56,4 +56,5 @@ pub(crate) fn print_usage<S: Sink>(out: &mut S) -> Status
 }
 
 const USAGE_LINE: &str =
-    "usage: knxsec open KEYHEX FRAMEHEX | audit TABLES FRAMES | audit-keyring KEYRING PASSWORDFILE TABLES FRAMES | replay SCRIPT | make NUMBER COUNT\n";
+    "usage: knxsec open KEYHEX FRAMEHEX | audit TABLES FRAMES | audit-keyring KEYRING PASSWORDFILE TABLES FRAMES | \
+         replay SCRIPT | make NUMBER COUNT\n";

@@ -5,7 +5,7 @@ ghost use Rattle.knx_base.specs.Files.{File, IsThere};
 ghost use Rattle.script_text.specs.Made.{made_script};
 ghost use Rattle.script_text.specs.Script.{IsScript, ScriptState};
 ghost use Rattle.script_text.specs.Text.{script_of};
-ghost use Rattle.install_run.specs.Laws.{KeepsLaws};
+ghost use Rattle.install_run.specs.Laws.{GoesByRules, KeepsLaws};
 ghost use Rattle.install_run.specs.Report.{steps_text, end_text, run_text};
 ghost use Rattle.install_run.specs.Summary.{summary_text};
 ghost use Rattle.install_run.specs.World.{WorldState};
@@ -148,6 +148,7 @@ fn stepped(alloc: Global, script: &Script) -> Result<World, NoMemory>
     requires keeps { IsScript script.now.rows script.now.nodes script.now.events }
     ensures played { IfOk result (λ world. HasPlayed script.now world) }
     ensures keeps { IfOk result (λ world. KeepsLaws world) }
+    ensures rules { IfOk result (λ world. GoesByRules world) }
 {
     let mut world = World::new(alloc, script)?;
     world.run(script.events())?;
