@@ -15,6 +15,7 @@ use Rattle.install_run.proofs.Valuing.{by_journal}
 use Rattle.install_run.proofs.Counting.{numbers_since}
 use Rattle.install_run.proofs.Legality.{legal, fits}
 use Rattle.install_run.proofs.Calming.{starts_as_kept}
+use Rattle.install_run.proofs.Following.{counts_on, asks_once}
 use Rattle.install_run.proofs.Verifying.{acts_on_verified}
 use Rattle.install_run.proofs.Delivering.{acts_on_all_deliverable}
 
@@ -44,4 +45,6 @@ goes_by_rules rows nodes places air history w run is =
       starts = starts_as_kept rows nodes history allowed;
       numbers = λ place row at.
           numbers_since rows nodes (world_in places air) history place row run.run run.held at;
+      counts = λ place row. counts_on rows nodes (world_in places air) history place row run.run run.held;
+      asks = λ place row. asks_once rows nodes (world_in places air) history place row run.run run.held;
     })

@@ -17,6 +17,7 @@ mod Disarming
 mod Answering
 mod Legality
 mod Calming
+mod Following
 mod Lawful
 mod Ending
 mod Summing

@@ -1,9 +1,10 @@
 -- What holds of every history. This is statement; the words are those of Histories, Marks, Journals, Values, Passing,
--- Verified and Deliverable, and of Legal, Fitting, Starting and Since.
+-- Verified and Deliverable, and of Legal, Fitting, Starting, Following and Since.
 use Rattle.std.specs.Prelude.{◌≡◌, ℕ, take, slice_get, Some}
 use Rattle.script_text.specs.declared.node_row.NodeRow.{NodeRow}
 use Rattle.install_run.specs.Deliverable.{ActsOnDeliverable}
 use Rattle.install_run.specs.First.{first_world}
+use Rattle.install_run.specs.Following.{CountsOn, AsksOnce}
 use Rattle.install_run.specs.Histories.{DrawsOnce}
 use Rattle.install_run.specs.Journals.{ExceedsMarks, JournalRises}
 use Rattle.install_run.specs.Fitting.{told_by_all, WorldFits}
@@ -86,9 +87,21 @@ NumbersFollow w =
     (place : ℕ) (row : NodeRow) → slice_get w.nodes place ≡ Some row
     → HasNumbersSince place row (events_of w.history) (first_world w.rows w.nodes) w.world
 
+-- The next number and the reservation of a node that runs are those that its outcomes tell,
+abbrev pub CountsFollow : WorldState → Type 0
+CountsFollow w =
+    (place : ℕ) (row : NodeRow) → slice_get w.nodes place ≡ Some row → CountsOn place row w.world w.history
+
+-- and so is its open challenge.
+abbrev pub ChallengesFollow : WorldState → Type 0
+ChallengesFollow w =
+    (place : ℕ) (row : NodeRow) → slice_get w.nodes place ≡ Some row → AsksOnce place w.world w.history
+
 -- It goes by the rules, which read the outcomes alone.
 pub record GoesByRules (w : WorldState) : Type 0 where
   pub legal : OnlyAllowed w
   pub fits : TellsWhatIs w
   pub starts : StartsGoOn w
   pub numbers : NumbersFollow w
+  pub counts : CountsFollow w
+  pub asks : ChallengesFollow w

@@ -13,6 +13,7 @@ pub mod Values
 pub mod Legal
 pub mod Fitting
 pub mod Starting
+pub mod Following
 pub mod Laws
 pub mod Air
 pub mod Counts
