@@ -1,13 +1,11 @@
 -- Where nothing is armed each start tells what was kept: by the steps of a legal history alone.
 use Prim.Native.Nat.{zero, suc}
 use Rattle.std.proofs.Common.{◌≡◌, inl, inr, ℕ, ◌+◌, ◌≤◌, map, List, [], ◌∷◌, length, set, get_or, false, Option, Some, None, refl, sym, ap, ◌∙◌, subst, arith}
-use Rattle.std.specs.Prelude.{slice_get}
 use Rattle.std.proofs.lemmas.Bool.{cases_eq, cases_lt}
 use Rattle.std.proofs.lemmas.List.{length-set, get_or-set_same, get_or-set_other, get_or_past}
 use Rattle.key_tables.specs.declared.types.Row.{Row}
 use Rattle.seq_store.specs.Runs.{Numbers}
-use Rattle.group_objects.specs.Objects.{set_refusal}
-use Rattle.node_core.specs.Standing.{ConfigState, Standing, with_value}
+use Rattle.node_core.specs.Standing.{Standing}
 use Rattle.node_core.specs.Transition.{Transition}
 use Rattle.script_text.specs.declared.event.Event.{Event}
 use Rattle.script_text.specs.declared.event.Event.TheVariants as event
@@ -15,12 +13,12 @@ use Rattle.script_text.specs.declared.node_row.NodeRow.{NodeRow}
 use Rattle.step_text.specs.declared.outcome.Step.{Step}
 use Rattle.step_text.specs.declared.outcome.StepOutcome.{StepOutcome}
 use Rattle.step_text.specs.declared.outcome.StepOutcome.TheVariants as outcome
-use Rattle.install_run.specs.Calls.{deliver_call, call_of}
+use Rattle.install_run.specs.Calls.{call_of}
 use Rattle.install_run.specs.Legal.{ToldNode, Told, no_told, told_in, first_told_node, first_told, call_tells, rest_tells, node_tells, told_by, told_after, AllowsAt, AllowsBy, AreLeft, AreAllowed, IsLegal}
-use Rattle.install_run.specs.Machine.{TelegramAt, telegram_in, heard}
+use Rattle.install_run.specs.Machine.{TelegramAt}
 use Rattle.install_run.specs.Runs.{place_of}
 use Rattle.install_run.specs.Starting.{arms, NoneArms, StartsAsKept, AllStartAsKept}
-use Rattle.install_run.proofs.Answering.{is_stop, goes_on, send_on, tool_on, ask_on, set_on, receive_on}
+use Rattle.install_run.proofs.Answering.{is_stop, goes_on, call_on}
 
 -- Nothing is armed, and the last stop cut no raise short.
 record IsCalm (t : ToldNode) : Type 0 where
@@ -30,11 +28,6 @@ record IsCalm (t : ToldNode) : Type 0 where
 
 -- ---- a step
 
-deliver_on : (count : ℕ) (c : ConfigState) (s : Standing) (octets : Option (List ℕ))
-    → is_stop (deliver_call count c s octets).outcome ≡ false
-deliver_on count c s None = refl
-deliver_on count c s (Some octets) = receive_on count c s octets
-
 calm_on : (said : StepOutcome) (call : Transition StepOutcome) (s : Standing) (t : ToldNode)
     → is_stop said ≡ false → IsCalm t → IsCalm (call_tells said call s t)
 calm_on said call s t goes calm = subst IsCalm (sym (goes_on said call s t goes))
@@ -43,24 +36,11 @@ calm_on said call s t goes calm = subst IsCalm (sym (goes_on said call s t goes)
 -- the call's own outcome
 calm_call : (e : Event) (air : List TelegramAt) (t : ToldNode) (s : Standing) → arms e ≡ false → IsCalm t
     → IsCalm (node_tells e air (call_of e air t.config s).outcome t (Some s))
-calm_call (event.Set node object value) air t s none calm =
-    calm_on _ _ s t (set_on (set_refusal (slice_get s.values object) value) s (with_value object value s)) calm
-calm_call (event.Send node object service) air t s none calm =
-    calm_on _ _ s t (send_on (length air) t.config s object service) calm
-calm_call (event.ToolSend node to apdu) air t s none calm =
-    calm_on _ _ s t (tool_on (length air) t.config s to apdu) calm
-calm_call (event.Ask node to challenge) air t s none calm =
-    calm_on _ _ s t (ask_on (length air) t.config s to challenge) calm
-calm_call (event.Deliver telegram node) air t s none calm =
-    calm_on _ _ s t (deliver_on (length air) t.config s (heard (telegram_in air telegram))) calm
-calm_call (event.Lose telegram) air t s none calm =
-    record { cut = calm.cut; fault = calm.fault; raises = calm.raises }
-calm_call (event.Inject octets) air t s none calm =
-    record { cut = calm.cut; fault = calm.fault; raises = calm.raises }
 calm_call (event.Off node) air t s none calm = record { cut = calm.cut; fault = calm.fault; raises = refl }
-calm_call (event.On node) air t s none calm = record { cut = calm.cut; fault = calm.fault; raises = calm.raises }
 calm_call (event.Cut node write torn) air t s none calm = absurd cc
 calm_call (event.Fault node write torn) air t s none calm = absurd cc
+calm_call e air t s none calm =
+    let call = call_of e air t.config s in calm_on call.outcome call s t ((call_on e air t.config s).0 refl) calm
 
 calm_rest : (said : StepOutcome) (t : ToldNode) → IsCalm t → IsCalm (rest_tells said t)
 calm_rest (outcome.On next marks) t calm = record { cut = calm.cut; fault = calm.fault; raises = calm.raises }

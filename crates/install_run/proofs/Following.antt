@@ -59,6 +59,7 @@ use Rattle.install_run.specs.Machine.{TelegramAt, WorldAt, telegram_in, heard, n
 use Rattle.install_run.specs.Origin.{events_of, AreHeld, IsRunOf}
 use Rattle.install_run.specs.Runs.{place_of, is_at, after, step_of, world_after, history_of}
 use Rattle.install_run.specs.Turn.{NodeAt, set_told, send_told, receive_told}
+use Rattle.install_run.proofs.Answering.{call_on}
 use Rattle.install_run.proofs.Drawing.{call_draws}
 use Rattle.install_run.proofs.Marking.{AllStand, stands_after}
 use Rattle.install_run.proofs.Rising.{IsFirstAt, first_at}
@@ -137,7 +138,8 @@ counter_told : IsTold counter_of counted
 counter_told = record {
   calls = λ e air n s stands.
       let d = call_draws e air n.config s stands.next_fits in
-      λ i. record { reserved = d.reserved i; next = d.next i };
+      let next_is = d.next ∙ sym (call_on e air n.config s).1 in
+      λ i. record { reserved = d.reserved i; next = next_is i };
   starts = λ e c found x.
       let same : found.reserved ≡ found.reserved + 1 - 1 = omega arith in
       λ i. record { reserved = same i; next = found.reserved + 1 };

@@ -198,7 +198,7 @@ delivered : (count : ℕ) (t : ToldNode) (s : Standing) (octets : List ℕ) (pla
 delivered count t s octets plan powered None m left = record { allowed_is = inl refl; matches = m; sent_is = refl }
 delivered count t s octets plan powered (Some heard) m left =
     called (receive_transition t.config s heard) (receive_told count) (running t s) s octets plan powered
-    (receive_on count t.config s heard) m.armed left
+    (receive_on count t.config s heard).0 m.armed left
 
 turned : (e : Event) (place : ℕ) → place_of e ≡ Some place → (air : List TelegramAt) (t : ToldNode)
     (standing : Option Standing) (octets : List ℕ) (plan : Plan) (powered : Bool)
@@ -207,19 +207,19 @@ turned : (e : Event) (place : ℕ) → place_of e ≡ Some place → (air : List
 turned (event.Set node object value) place at air t None octets plan powered m left = rested _ _ m
 turned (event.Set node object value) place at air t (Some s) octets plan powered m left =
     called (set_transition s object value) set_told (running t s) s octets plan powered
-    (set_on (set_refusal (slice_get s.values object) value) s (with_value object value s)) m.armed (left s refl)
+    (set_on (set_refusal (slice_get s.values object) value) s (with_value object value s)).0 m.armed (left s refl)
 turned (event.Send node object service) place at air t None octets plan powered m left = rested _ _ m
 turned (event.Send node object service) place at air t (Some s) octets plan powered m left =
     called (send_transition t.config s object service) (send_told (length air)) (running t s) s octets plan powered
-    (send_on (length air) t.config s object service) m.armed (left s refl)
+    (send_on (length air) t.config s object service).0 m.armed (left s refl)
 turned (event.ToolSend node to apdu) place at air t None octets plan powered m left = rested _ _ m
 turned (event.ToolSend node to apdu) place at air t (Some s) octets plan powered m left =
     called (tool_transition t.config s to apdu) (send_told (length air)) (running t s) s octets plan powered
-    (tool_on (length air) t.config s to apdu) m.armed (left s refl)
+    (tool_on (length air) t.config s to apdu).0 m.armed (left s refl)
 turned (event.Ask node to challenge) place at air t None octets plan powered m left = rested _ _ m
 turned (event.Ask node to challenge) place at air t (Some s) octets plan powered m left =
     called (ask_transition t.config s to challenge) (send_told (length air)) (running t s) s octets plan powered
-    (ask_on (length air) t.config s to challenge) m.armed (left s refl)
+    (ask_on (length air) t.config s to challenge).0 m.armed (left s refl)
 turned (event.Deliver telegram node) place at air t None octets plan powered m left = rested _ _ m
 turned (event.Deliver telegram node) place at air t (Some s) octets plan powered m left =
     delivered (length air) t s octets plan powered (heard (telegram_in air telegram)) m (left s refl)

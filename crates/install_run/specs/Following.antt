@@ -1,5 +1,5 @@
 -- The next number, the reservation and the open challenge of a node, by its outcomes alone. This is statement.
-use Rattle.std.specs.Prelude.{◌≡◌, ℕ, ◌-◌, List, [], ◌∷◌, Some, None, if◌then◌else◌}
+use Rattle.std.specs.Prelude.{◌≡◌, ℕ, ◌+◌, ◌-◌, max, List, [], ◌∷◌, Some, None, if◌then◌else◌}
 use Rattle.sync_service.specs.Open.{Pending}
 use Rattle.node_core.specs.Standing.{Standing}
 use Rattle.script_text.specs.declared.event.Event.{Event}
@@ -25,9 +25,14 @@ pub record Counter : Type 0 where
   pub reserved : ℕ
   pub next : ℕ
 
+-- as an outcome is counted, and in a synchronisation by the number that its answer says was kept
+abbrev pub next_counted : ℕ → StepOutcome → ℕ
+next_counted next (outcome.Synced number kept told) = max next (kept + 1)
+next_counted next said = next_after next said
+
 abbrev pub counted : Event → StepOutcome → Counter → Counter
 counted e said c =
-    record { reserved = reserved_after c.reserved c.next said; next = next_after c.next said }
+    record { reserved = reserved_after c.reserved c.next said; next = next_counted c.next said }
 
 -- A node that runs counts on from the script's next number by what its outcomes tell.
 abbrev pub CountsOn : ℕ → NodeRow → WorldAt → List Step → Type 0
