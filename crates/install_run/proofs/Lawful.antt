@@ -18,6 +18,7 @@ use Rattle.install_run.proofs.Calming.{starts_as_kept}
 use Rattle.install_run.proofs.Following.{counts_on, asks_once}
 use Rattle.install_run.proofs.Verifying.{acts_on_verified}
 use Rattle.install_run.proofs.Delivering.{acts_on_all_deliverable}
+use Rattle.install_run.proofs.Sealing.{blocks_of_their_own}
 
 pub keeps_laws : (rows : List Row) (nodes : List NodeRow) (places : List PlaceAt) (air : List TelegramAt)
     (history : List Step) (w : WorldState) → IsRun rows nodes places air history
@@ -47,4 +48,5 @@ goes_by_rules rows nodes places air history w run is =
           numbers_since rows nodes (world_in places air) history place row run.run run.held at;
       counts = λ place row. counts_on rows nodes (world_in places air) history place row run.run run.held;
       asks = λ place row. asks_once rows nodes (world_in places air) history place row run.run run.held;
+      seals = blocks_of_their_own rows nodes (world_in places air) history run.run run.held;
     })

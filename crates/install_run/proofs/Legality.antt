@@ -302,7 +302,7 @@ record IsAsTold (w : WorldAt) (told : Told) : Type 0 where
   stand : (place : ℕ) → place < length w.nodes → AllStand (node_in w place)
 
 -- The node of an event is there, since its memory has the size of a store afterwards.
-in_range : (e : Event) (w : WorldAt) (place : ℕ) → place_of e ≡ Some place → HoldsAfter e w → place < length w.nodes
+pub in_range : (e : Event) (w : WorldAt) (place : ℕ) → place_of e ≡ Some place → HoldsAfter e w → place < length w.nodes
 in_range e w place at held = elim (cases_lt place (length (after e w).nodes)) [
   | inl below ↦ let same = same_size e w in omega (arith, below, same)
   | inr past ↦

@@ -18,6 +18,9 @@ mod Answering
 mod Legality
 mod Calming
 mod Following
+mod Framing
+mod Numbering
+mod Sealing
 mod Lawful
 mod Ending
 mod Summing

@@ -85,11 +85,11 @@ DrawnFrom floor [] = Unit {0}
 DrawnFrom floor (d ∷ ds) = (floor ≤ d.number) × (d.number ≤ d.reserved) × DrawnFrom (d.number + 1) ds
 
 -- a step, and what holds afterwards
-record GoesOn (said : StepOutcome) (n' : NodeAt) (reserved next floor : ℕ) : Type 0 where
-  floor' : ℕ
-  fits : Fits n' (reserved_after reserved next said) (next_after next said) floor'
-  drawn : (ds : List Draw) → DrawnFrom floor' ds → DrawnFrom floor (draw_of reserved next said ++ ds)
-  says : IfSome (number_said said) (λ number. number ≡ next)
+pub record GoesOn (said : StepOutcome) (n' : NodeAt) (reserved next floor : ℕ) : Type 0 where
+  pub floor' : ℕ
+  pub fits : Fits n' (reserved_after reserved next said) (next_after next said) floor'
+  pub drawn : (ds : List Draw) → DrawnFrom floor' ds → DrawnFrom floor (draw_of reserved next said ++ ds)
+  pub says : IfSome (number_said said) (λ number. number ≡ next)
 
 no_draw : (floor reserved next : ℕ) (said : StepOutcome) (ds : List Draw) → has_telegram said ≡ false
     → DrawnFrom floor ds → DrawnFrom floor (draw_of reserved next said ++ ds)
@@ -239,7 +239,7 @@ rests n n' said reserved next floor st config fits =
     (subst (λ (c : ConfigState). floor ≤ (numbers_in (length c.lanes) n.octets).reserved + 1) (sym config)
     (fits.rests st.was))))
 
-goes_on : (e : Event) (air : List TelegramAt) (n n' : NodeAt) (said : StepOutcome) (reserved next floor : ℕ)
+pub goes_on : (e : Event) (air : List TelegramAt) (n n' : NodeAt) (said : StepOutcome) (reserved next floor : ℕ)
     → StepsTo e air n said n' → n'.config ≡ n.config → IsHeld e air n n' → Fits n reserved next floor
     → GoesOn said n' reserved next floor
 goes_on e air n n' said reserved next floor (inl g) config held fits =

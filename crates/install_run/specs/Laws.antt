@@ -13,6 +13,7 @@ use Rattle.install_run.specs.Marks.{NoMarkFalls}
 use Rattle.install_run.specs.Origin.{IsRunOf, events_of}
 use Rattle.install_run.specs.Machine.{WorldAt}
 use Rattle.install_run.specs.Runs.{world_after}
+use Rattle.install_run.specs.Sealed.{all_sealed, HaveBlocksOfTheirOwn}
 use Rattle.install_run.specs.Since.{HasNumbersSince}
 use Rattle.install_run.specs.Starting.{NoneArms, AllStartAsKept}
 use Rattle.install_run.specs.Values.{ObjectsByJournal}
@@ -97,7 +98,12 @@ abbrev pub ChallengesFollow : WorldState → Type 0
 ChallengesFollow w =
     (place : ℕ) (row : NodeRow) → slice_get w.nodes place ≡ Some row → AsksOnce place w.world w.history
 
--- It goes by the rules, which read the outcomes alone.
+-- No two telegrams that its nodes sealed have one counter block.
+abbrev pub SealsApart : WorldState → Type 0
+SealsApart w =
+    HaveBlocksOfTheirOwn w.nodes w.history (all_sealed (events_of w.history) (first_world w.rows w.nodes))
+
+-- It goes by the rules, which read the outcomes alone, and what it sealed has blocks of its own.
 pub record GoesByRules (w : WorldState) : Type 0 where
   pub legal : OnlyAllowed w
   pub fits : TellsWhatIs w
@@ -105,3 +111,4 @@ pub record GoesByRules (w : WorldState) : Type 0 where
   pub numbers : NumbersFollow w
   pub counts : CountsFollow w
   pub asks : ChallengesFollow w
+  pub seals : SealsApart w

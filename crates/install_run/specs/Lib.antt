@@ -11,6 +11,7 @@ pub mod Verified
 pub mod Since
 pub mod Values
 pub mod Legal
+pub mod Sealed
 pub mod Fitting
 pub mod Starting
 pub mod Following
