@@ -48,13 +48,8 @@ use Rattle.install_run.specs.Following.{next_counted}
 use Rattle.install_run.specs.Histories.{next_after}
 use Rattle.install_run.specs.Machine.{TelegramAt, telegram_in, heard}
 use Rattle.install_run.specs.Legal.{ToldNode, call_tells}
+use Rattle.install_run.specs.Synchronising.{is_stop}
 use Rattle.install_run.specs.Turn.{set_told, send_told, receive_told}
-
-abbrev pub is_stop : StepOutcome → Bool
-is_stop outcome.Cut = true
-is_stop outcome.Fault = true
-is_stop outcome.Down = true
-is_stop said = false
 
 pub goes_on : (said : StepOutcome) (call : Transition StepOutcome) (s : Standing) (t : ToldNode) → is_stop said ≡ false
     → call_tells said call s t ≡ record t { standing = Some call.after }

@@ -18,7 +18,8 @@ use Rattle.install_run.specs.Legal.{ToldNode, Told, no_told, told_in, first_told
 use Rattle.install_run.specs.Machine.{TelegramAt}
 use Rattle.install_run.specs.Runs.{place_of}
 use Rattle.install_run.specs.Starting.{arms, NoneArms, StartsAsKept, AllStartAsKept}
-use Rattle.install_run.proofs.Answering.{is_stop, goes_on, call_on}
+use Rattle.install_run.specs.Synchronising.{is_stop}
+use Rattle.install_run.proofs.Answering.{goes_on, call_on}
 
 -- Nothing is armed, and the last stop cut no raise short.
 record IsCalm (t : ToldNode) : Type 0 where

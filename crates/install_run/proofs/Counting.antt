@@ -93,7 +93,7 @@ key_marks : (key : Option (List ℕ)) (frame : List ℕ → ℕ → List ℕ) (s
 key_marks None frame s = refl
 key_marks (Some key) frame s = drawing_marks (s.next == 2 ^ 48) (frame key) s
 
-channel_marks : (c : ConfigState) (s : Standing) (found : Option Channel) (frame : List ℕ → ℕ → List ℕ)
+pub channel_marks : (c : ConfigState) (s : Standing) (found : Option Channel) (frame : List ℕ → ℕ → List ℕ)
     → (on_channel c s found frame).after.numbers.marks ≡ s.numbers.marks
 channel_marks c s None frame = refl
 channel_marks c s (Some found) frame = key_marks (key_of c.rows found) frame s
@@ -264,7 +264,7 @@ module _ (lane : ℕ) (c : ConfigState) (s : Standing) (lanes : length s.numbers
 
 -- ---- what an outcome tells of the next number
 
-abbrev Tells : ℕ → StepOutcome → Type 0
+abbrev pub Tells : ℕ → StepOutcome → Type 0
 Tells next (outcome.Synced number kept then_next) = then_next ≡ max next (kept + 1)
 Tells next (outcome.On first marks) = ⊥
 Tells next said = Unit {0}
@@ -345,7 +345,7 @@ module _ (count : ℕ) where
   deliver_tells c s None = tt
   deliver_tells c s (Some octets) = frame_tells c s (frame_fault octets) (frame_at octets)
 
-call_tells : (e : Event) (air : List TelegramAt) (c : ConfigState) (s : Standing)
+pub call_tells : (e : Event) (air : List TelegramAt) (c : ConfigState) (s : Standing)
     → Tells s.next (call_of e air c s).outcome
 call_tells (event.Set node object value) air c s =
     set_tells (set_refusal (slice_get s.values object) value) s object value

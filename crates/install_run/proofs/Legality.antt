@@ -35,7 +35,8 @@ use Rattle.install_run.specs.Origin.{IsInstallation, events_of, HoldsAfter, AreH
 use Rattle.install_run.specs.Runs.{place_of, is_at, after, step_of, world_after, history_of}
 use Rattle.install_run.specs.Slot.{IsSound}
 use Rattle.install_run.specs.Turn.{NodeAt, Turn, stays, struck_by, turn_by, set_told, send_told, receive_told, receive_turn}
-use Rattle.install_run.proofs.Answering.{is_stop, goes_on, send_on, tool_on, ask_on, set_on, receive_on}
+use Rattle.install_run.specs.Synchronising.{is_stop}
+use Rattle.install_run.proofs.Answering.{goes_on, send_on, tool_on, ask_on, set_on, receive_on}
 use Rattle.install_run.proofs.Climbing.{same_lanes}
 use Rattle.install_run.proofs.Disarming.{Disarms, disarms}
 use Rattle.install_run.proofs.Drawing.{same_raises}

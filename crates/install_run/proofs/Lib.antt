@@ -21,6 +21,8 @@ mod Following
 mod Framing
 mod Numbering
 mod Sealing
+mod Replying
+mod Synchronised
 mod Lawful
 mod Ending
 mod Summing

@@ -21,6 +21,7 @@ use Rattle.install_run.specs.Machine.{TelegramAt, WorldAt, WorldTurn, telegram_i
 use Rattle.install_run.specs.Runs.{place_of, is_at, after, step_of}
 use Rattle.install_run.specs.Calls.{deliver_call, call_of}
 use Rattle.install_run.specs.Journals.{acted_in}
+use Rattle.install_run.specs.Synchronising.{is_stop}
 use Rattle.install_run.proofs.Drawing.{IsSilent}
 use Rattle.install_run.proofs.Stepping.{same_place}
 
@@ -38,6 +39,7 @@ pub record Stops (e : Event) (air : List TelegramAt) (n : NodeAt) (said : StepOu
   pub now : n'.standing ≡ None
   pub silent : IsSilent said
   pub acts : acted_in said ≡ None
+  pub stops : is_stop said ≡ true
 
 pub record Starts (n : NodeAt) (said : StepOutcome) (n' : NodeAt) : Type 0 where
   pub was : n.standing ≡ None
@@ -103,6 +105,7 @@ called e air n s t told (Some nvm.Cut) struck is same = inr (inl (record {
   now = refl;
   silent = record { sends = refl; next = λ next. refl; reserved = λ r next. refl; says = refl };
   acts = refl;
+  stops = refl;
 }))
 called e air n s t told (Some nvm.Failed) struck is same = inr (inl (record {
   before = s;
@@ -110,6 +113,7 @@ called e air n s t told (Some nvm.Failed) struck is same = inr (inl (record {
   now = refl;
   silent = record { sends = refl; next = λ next. refl; reserved = λ r next. refl; says = refl };
   acts = refl;
+  stops = refl;
 }))
 
 -- by the standing
@@ -145,6 +149,7 @@ switched_off node air n (Some s) is = inr (inl (record {
   now = refl;
   silent = record { sends = refl; next = λ next. refl; reserved = λ r next. refl; says = refl };
   acts = refl;
+  stops = refl;
 }))
 
 switched_on : (node : ℕ) (air : List TelegramAt) (n : NodeAt) (standing : Option Standing) → n.standing ≡ standing

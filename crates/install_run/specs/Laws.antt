@@ -1,5 +1,5 @@
 -- What holds of every history. This is statement; the words are those of Histories, Marks, Journals, Values, Passing,
--- Verified and Deliverable, and of Legal, Fitting, Starting, Following and Since.
+-- Verified and Deliverable, and of Legal, Fitting, Starting, Since, Following, Sealed and Synchronising.
 use Rattle.std.specs.Prelude.{◌≡◌, ℕ, take, slice_get, Some}
 use Rattle.script_text.specs.declared.node_row.NodeRow.{NodeRow}
 use Rattle.install_run.specs.Deliverable.{ActsOnDeliverable}
@@ -16,6 +16,7 @@ use Rattle.install_run.specs.Runs.{world_after}
 use Rattle.install_run.specs.Sealed.{all_sealed, HaveBlocksOfTheirOwn}
 use Rattle.install_run.specs.Since.{HasNumbersSince}
 use Rattle.install_run.specs.Starting.{NoneArms, AllStartAsKept}
+use Rattle.install_run.specs.Synchronising.{Synchronises}
 use Rattle.install_run.specs.Values.{ObjectsByJournal}
 use Rattle.install_run.specs.Verified.{ActsOnVerified}
 use Rattle.install_run.specs.World.{WorldState}
@@ -103,6 +104,12 @@ abbrev pub SealsApart : WorldState → Type 0
 SealsApart w =
     HaveBlocksOfTheirOwn w.nodes w.history (all_sealed (events_of w.history) (first_world w.rows w.nodes))
 
+-- After a synchronisation a node goes on above what it was told, and above the number of an answer that it sent.
+abbrev pub SynchronisesAll : WorldState → Type 0
+SynchronisesAll w =
+    (place : ℕ) (row : NodeRow) → slice_get w.nodes place ≡ Some row
+    → Synchronises place row (events_of w.history) (first_world w.rows w.nodes) w.history
+
 -- It goes by the rules, which read the outcomes alone, and what it sealed has blocks of its own.
 pub record GoesByRules (w : WorldState) : Type 0 where
   pub legal : OnlyAllowed w
@@ -112,3 +119,4 @@ pub record GoesByRules (w : WorldState) : Type 0 where
   pub counts : CountsFollow w
   pub asks : ChallengesFollow w
   pub seals : SealsApart w
+  pub synchronises : SynchronisesAll w

@@ -15,6 +15,7 @@ pub mod Sealed
 pub mod Fitting
 pub mod Starting
 pub mod Following
+pub mod Synchronising
 pub mod Laws
 pub mod Air
 pub mod Counts

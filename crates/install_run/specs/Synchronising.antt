@@ -1,0 +1,118 @@
+-- What synchronisations make of the numbers of the two nodes, the requester and the responder. This is statement.
+use Rattle.std.specs.Prelude.{◌≡◌, ℕ, ◌-◌, ◌<◌, max, List, [], ◌∷◌, Bool, true, false, Option, Some, None, IfSome, if◌then◌else◌}
+use Rattle.std.specs.List.{All}
+use Rattle.cemi_frames.specs.Reading.{frame_at}
+use Rattle.key_tables.specs.declared.types.Lane.{Lane}
+use Rattle.key_tables.specs.declared.types.Lane.TheVariants as lanes
+use Rattle.judge_rules.specs.Checks.{lane_in, check_stale}
+use Rattle.judge_rules.specs.Parts.{source_of}
+use Rattle.sync_service.specs.Frames.{answer_frame}
+use Rattle.node_core.specs.Standing.{Standing}
+use Rattle.script_text.specs.declared.event.Event.{Event}
+use Rattle.script_text.specs.declared.event.Event.TheVariants as event
+use Rattle.script_text.specs.declared.node_row.NodeRow.{NodeRow}
+use Rattle.step_text.specs.declared.outcome.Step.{Step}
+use Rattle.step_text.specs.declared.outcome.StepOutcome.{StepOutcome}
+use Rattle.step_text.specs.declared.outcome.StepOutcome.TheVariants as outcome
+use Rattle.install_run.specs.Calls.{call_of}
+use Rattle.install_run.specs.Histories.{Draw, draws, next_after, reserved_after, outcomes_of}
+use Rattle.install_run.specs.Journals.{mark_on}
+use Rattle.install_run.specs.Machine.{TelegramAt, WorldAt, telegram_in, heard, node_in}
+use Rattle.install_run.specs.Runs.{place_of, is_at, after, step_of}
+
+-- ---- what a node draws later
+
+-- in this step the node stopped
+abbrev pub is_stop : StepOutcome → Bool
+is_stop outcome.Cut = true
+is_stop outcome.Fault = true
+is_stop outcome.Down = true
+is_stop said = false
+
+-- these outcomes of a node up to its next stop
+abbrev pub until_stop : List StepOutcome → List StepOutcome
+until_stop [] = []
+until_stop (said ∷ later) = if is_stop said then [] else said ∷ until_stop later
+
+-- each of these numbers is above that one
+abbrev pub AreAbove : ℕ → List Draw → Type 0
+AreAbove number drawn = All (λ (draw : Draw). number < draw.number) drawn
+
+-- the number of the requester that a taken answer tells as kept
+abbrev pub kept_told : StepOutcome → Option ℕ
+kept_told (outcome.Synced number kept then_next) = Some kept
+kept_told _ = None
+
+-- After each answer that is taken, each number that the node draws before its next stop is above the kept one that the
+-- answer told.
+abbrev pub GoesOnAboveKept : ℕ → ℕ → List StepOutcome → Type 0
+GoesOnAboveKept reserved next [] = Unit {0}
+GoesOnAboveKept reserved next (said ∷ later) =
+    let reserved' = reserved_after reserved next said in
+    let next' = next_after next said in
+    IfSome (kept_told said) (λ kept. AreAbove kept (draws reserved' next' (until_stop later)))
+    × GoesOnAboveKept reserved' next' later
+
+-- the challenge of a request that was answered, and the telegram of the reply
+abbrev pub answered_in : StepOutcome → Option (List ℕ × ℕ)
+answered_in (outcome.Answered challenge (Some telegram)) = Some (challenge, telegram)
+answered_in _ = None
+
+-- After each answer that the node sends, each number that it draws, through stops and starts, is above the answer's.
+abbrev pub GoesOnAboveAnswers : ℕ → ℕ → List StepOutcome → Type 0
+GoesOnAboveAnswers reserved next [] = Unit {0}
+GoesOnAboveAnswers reserved next (said ∷ later) =
+    let reserved' = reserved_after reserved next said in
+    let next' = next_after next said in
+    IfSome (answered_in said) (λ answered. AreAbove next (draws reserved' next' later))
+    × GoesOnAboveAnswers reserved' next' later
+
+-- ---- what passes at the other node
+
+-- While the mark of this lane is what it is in this state, a number above that one passes the check of numbers there.
+abbrev pub PassesAbove : ℕ → WorldAt → ℕ → Lane → Type 0
+PassesAbove kept w place lane =
+    (later : WorldAt) (number : ℕ) → mark_on later place lane ≡ mark_on w place lane → kept < number
+    → check_stale (mark_on later place lane) number ≡ None
+
+-- the octets that this event brings to its node
+abbrev pub brought : Event → List TelegramAt → Option (List ℕ)
+brought (event.Deliver telegram node) air = heard (telegram_in air telegram)
+brought e air = None
+
+-- A reply: the request and its lane, and the number that the reply tells as kept. That is the greater of the marks of
+-- the requester, for groups and on the lane of the request, when the reply was drawn; and so a number above it passes
+-- on both lanes while the mark there does not rise.
+pub record IsReply (e : Event) (w : WorldAt) (place : ℕ) (challenge : List ℕ) : Type 0 where
+  pub before : Standing
+  pub runs : (node_in w place).standing ≡ Some before
+  pub request : List ℕ
+  pub brings : brought e w.air ≡ Some request
+  pub lane : Lane
+  pub lane_is : lane_in (node_in w place).config.rows (frame_at request) ≡ Some lane
+  pub key : List ℕ
+  pub kept : ℕ
+  pub sends : (call_of e w.air (node_in w place).config before).frame
+      ≡ Some (answer_frame key (node_in w place).config.address (source_of (frame_at request)) before.next challenge
+      kept)
+  pub kept_is : kept
+      ≡ max (mark_on (after e w) place (lanes.Run (source_of (frame_at request)))) (mark_on (after e w) place lane)
+  pub for_groups : PassesAbove kept (after e w) place (lanes.Run (source_of (frame_at request)))
+  pub on_lane : PassesAbove kept (after e w) place lane
+
+-- Each answer that the node at this place sends in one of these steps is such a reply.
+abbrev pub RepliesTellMarks : ℕ → List Event → WorldAt → Type 0
+RepliesTellMarks place [] w = Unit {0}
+RepliesTellMarks place (e ∷ events) w =
+    (is_at place (place_of e) ≡ true
+    → IfSome (answered_in (step_of e w).outcome) (λ answered. IsReply e w place answered.0))
+    × RepliesTellMarks place events (after e w)
+
+-- ---- of a node of a script
+
+-- What answers make of the numbers that the node draws, of those that it answered and of those that it took.
+pub record Synchronises (place : ℕ) (row : NodeRow) (events : List Event) (first : WorldAt) (history : List Step)
+    : Type 0 where
+  pub takes : GoesOnAboveKept (row.next - 1) row.next (outcomes_of place history)
+  pub answers : GoesOnAboveAnswers (row.next - 1) row.next (outcomes_of place history)
+  pub replies : RepliesTellMarks place events first
