@@ -165,7 +165,7 @@ act_marks c s Device lane number service apdu = refl
 act_marks c s (Object object) lane number service apdu =
     row_marks c s number lane object apdu (slice_get c.objects object)
 
-verdict_marks : (c : ConfigState) (s : Standing) (source : IndAddr) (to : Addressee) (lane : Lane) (apdu : List ℕ)
+pub verdict_marks : (c : ConfigState) (s : Standing) (source : IndAddr) (to : Addressee) (lane : Lane) (apdu : List ℕ)
     (said : Verdict) → (verdict_transition c s source to lane apdu said).after.numbers.marks ≡ s.numbers.marks
 verdict_marks c s source to lane apdu (verdict.Accepted number service) = act_marks c s to lane number service apdu
 verdict_marks c s source to lane apdu (verdict.SyncAsk number challenge) =

@@ -22,6 +22,7 @@ mod Framing
 mod Numbering
 mod Sealing
 mod Replying
+mod Taken
 mod Synchronised
 mod Lawful
 mod Ending

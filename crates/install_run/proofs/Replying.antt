@@ -1,5 +1,5 @@
 -- The reply of a node tells the greater of the requester's marks: by the cases of its transition.
-use Rattle.std.proofs.Common.{◌≡◌, inl, inr, ℕ, ◌+◌, ◌<◌, ◌≤◌, List, [], ◌∷◌, length, nat_lt, Bool, true, false, Option, Some, None, Result, Ok, Err, refl, sym, ap, ◌∙◌, arith}
+use Rattle.std.proofs.Common.{◌≡◌, inl, inr, ℕ, ◌+◌, ◌<◌, ◌≤◌, List, [], ◌∷◌, length, nat_lt, Bool, true, false, Option, Some, None, Result, Ok, Err, refl, sym, ap, ◌∙◌, subst, arith}
 use Rattle.std.specs.Prelude.{◌^◌, ◌==◌, max, slice_get, if◌then◌else◌, IfSome}
 use Rattle.std.proofs.lemmas.Bool.Decides.{nat_tests}
 use Rattle.std.proofs.lemmas.Option.{none-some}
@@ -36,7 +36,7 @@ use Rattle.node_core.specs.declared.outcome.Outcome.{Outcome}
 use Rattle.node_core.specs.declared.outcome.Outcome.TheVariants as received
 use Rattle.node_core.specs.Standing.{ConfigState, Standing, raised, with_value, place_in, mark_at}
 use Rattle.node_core.specs.Transition.{Transition, quiet}
-use Rattle.node_core.specs.Sending.{sealing, under_key, on_channel, device_channel, send_transition, tool_transition, ask_transition, set_unless}
+use Rattle.node_core.specs.Sending.{sealing, under_key, on_channel, device_channel, send_transition, tool_transition, ask_transition, set_unless, set_transition}
 use Rattle.node_core.specs.Receiving.{addressee, kept_raises, number_sent, reply_transition, effect_transition, row_transition, act_transition, mark_told, verdict_transition, telegram_transition, addressed_transition, frame_transition}
 use Rattle.script_text.specs.declared.event.Event.{Event}
 use Rattle.script_text.specs.declared.event.Event.TheVariants as event
@@ -48,30 +48,40 @@ use Rattle.install_run.specs.Marks.{marks_by}
 use Rattle.install_run.specs.Runs.{after, step_of}
 use Rattle.install_run.specs.Calls.{deliver_call, call_of}
 use Rattle.install_run.specs.Journals.{mark_on}
-use Rattle.install_run.specs.Synchronising.{answered_in, PassesAbove, brought, IsReply, RepliesTellMarks}
+use Rattle.install_run.specs.Synchronising.{answered_in, taken_in, PassesAbove, brought, IsReply, RepliesTellMarks}
 use Rattle.install_run.proofs.Counting.{channel_marks}
 use Rattle.install_run.proofs.Sounding.{some_same}
 use Rattle.install_run.proofs.Steps.{StepsTo, IsSteppedAt, stepped_at, same_size, is_its_place}
 
--- ---- only what is received is answered
+-- ---- only what is received is answered or taken
 
-none_set : (refusal : Option SetFault) → answered_in (set_told refusal) ≡ None
-none_set None = refl
-none_set (Some refused.NoObject) = refl
-none_set (Some refused.Size) = refl
+pub record IsNone (said : StepOutcome) : Type 0 where
+  pub answers : answered_in said ≡ None
+  pub takes : taken_in said ≡ None
+
+pub none_set : (refusal : Option SetFault) → IsNone (set_told refusal)
+none_set None = record { answers = refl; takes = refl }
+none_set (Some refused.NoObject) = record { answers = refl; takes = refl }
+none_set (Some refused.Size) = record { answers = refl; takes = refl }
 
 set_said : (refusal : Option SetFault) (s new : Standing) → (set_unless refusal s new).outcome ≡ refusal
 set_said None s new = refl
 set_said (Some f) s new = refl
 
-none_sent : (count : ℕ) (sent : Result ℕ SendFault) → answered_in (send_told count sent) ≡ None
-none_sent count (Ok number) = refl
-none_sent count (Err fault.NoObject) = refl
-none_sent count (Err fault.Flag) = refl
-none_sent count (Err fault.NoKey) = refl
-none_sent count (Err fault.Exhausted) = refl
-none_sent count (Err (fault.Memory nvm.Cut)) = refl
-none_sent count (Err (fault.Memory nvm.Failed)) = refl
+pub none_set_by : (s : Standing) (object : ℕ) (value : ObjectValue)
+    → IsNone (set_told (set_transition s object value).outcome)
+none_set_by s object value =
+    let refusal = set_refusal (slice_get s.values object) value in
+    subst (λ r. IsNone (set_told r)) (sym (set_said refusal s (with_value object value s))) (none_set refusal)
+
+pub none_sent : (count : ℕ) (sent : Result ℕ SendFault) → IsNone (send_told count sent)
+none_sent count (Ok number) = record { answers = refl; takes = refl }
+none_sent count (Err fault.NoObject) = record { answers = refl; takes = refl }
+none_sent count (Err fault.Flag) = record { answers = refl; takes = refl }
+none_sent count (Err fault.NoKey) = record { answers = refl; takes = refl }
+none_sent count (Err fault.Exhausted) = record { answers = refl; takes = refl }
+none_sent count (Err (fault.Memory nvm.Cut)) = record { answers = refl; takes = refl }
+none_sent count (Err (fault.Memory nvm.Failed)) = record { answers = refl; takes = refl }
 
 -- ---- the frame of a reply
 
@@ -240,15 +250,16 @@ call_replies : (e : Event) (air : List TelegramAt) (c : ConfigState) (s : Standi
     → answered_in (call_of e air c s).outcome ≡ Some answered
     → CallReplies (brought e air) c s (call_of e air c s) answered.0
 call_replies (event.Set node object value) air c s answered is =
-    let refusal = set_refusal (slice_get s.values object) value in
-    elim (none-some answered (sym (ap (λ r. answered_in (set_told r)) (set_said refusal s (with_value object value s))
-    ∙ none_set refusal) ∙ is)) [ ]
+    elim (none-some answered (sym (none_set_by s object value).answers ∙ is)) [ ]
 call_replies (event.Send node object service) air c s answered is =
-    elim (none-some answered (sym (none_sent (length air) (send_transition c s object service).outcome) ∙ is)) [ ]
+    let none = none_sent (length air) (send_transition c s object service).outcome in
+    elim (none-some answered (sym none.answers ∙ is)) [ ]
 call_replies (event.ToolSend node to apdu) air c s answered is =
-    elim (none-some answered (sym (none_sent (length air) (tool_transition c s to apdu).outcome) ∙ is)) [ ]
+    let none = none_sent (length air) (tool_transition c s to apdu).outcome in
+    elim (none-some answered (sym none.answers ∙ is)) [ ]
 call_replies (event.Ask node to challenge) air c s answered is =
-    elim (none-some answered (sym (none_sent (length air) (ask_transition c s to challenge).outcome) ∙ is)) [ ]
+    let none = none_sent (length air) (ask_transition c s to challenge).outcome in
+    elim (none-some answered (sym none.answers ∙ is)) [ ]
 call_replies (event.Deliver telegram node) air c s answered is =
     deliver_replies (length air) c s (heard (telegram_in air telegram)) answered is
 call_replies (event.Lose telegram) air c s answered is = absurd cc
@@ -265,7 +276,7 @@ passes_by : (below : Bool) (mark number : ℕ) → nat_lt mark number ≡ below 
 passes_by true mark number is under = refl
 passes_by false mark number is under = absurd (grind (arith, nat_tests, is, under))
 
-passes_above : (kept : ℕ) (w : WorldAt) (place : ℕ) (lane : Lane) → mark_on w place lane ≤ kept
+pub passes_above : (kept : ℕ) (w : WorldAt) (place : ℕ) (lane : Lane) → mark_on w place lane ≤ kept
     → PassesAbove kept w place lane
 passes_above kept w place lane under = λ later number same above.
     passes_by (nat_lt (mark_on later place lane) number) (mark_on later place lane) number refl
@@ -317,7 +328,7 @@ reply_step e w place answered said (inr (inr (inl st))) config is =
 reply_step e w place answered said (inr (inr (inr st))) config is =
     elim (none-some answered (sym (silent_none said st.silent.sends) ∙ is)) [ ]
 
-if_some : {A : Type 0} (P : A → Type 0) (o : Option A) → ((a : A) → o ≡ Some a → P a) → IfSome o P
+pub if_some : {A : Type 0} (P : A → Type 0) (o : Option A) → ((a : A) → o ≡ Some a → P a) → IfSome o P
 if_some P None each = tt
 if_some P (Some a) each = each a refl
 

@@ -27,6 +27,7 @@ use Rattle.install_run.proofs.Drawing.{Draws, call_draws}
 use Rattle.install_run.proofs.Marking.{AllStand, stands_after}
 use Rattle.install_run.proofs.Steps.{StepsTo, IsSteppedAt, stepped_at, stays_at, same_size, is_its_place}
 use Rattle.install_run.proofs.Replying.{replies_tell}
+use Rattle.install_run.proofs.Taken.{taken_pass}
 use Rattle.install_run.proofs.Rising.{Fits, GoesOn, goes_on, IsFirstAt, first_at, draws_once}
 
 if_then : {A : Type 0} (P Q : A → Type 0) (o : Option A) → ((a : A) → P a → Q a) → IfSome o P → IfSome o Q
@@ -260,4 +261,5 @@ module _ (rows : List Row) (nodes : List NodeRow) (w : WorldAt) (history : List 
     takes = goes_on_above_kept;
     answers = goes_on_above_answers;
     replies = replies_tell (events_of history) (first_world rows nodes) place at_first.below;
+    taken = taken_pass (events_of history) (first_world rows nodes) place at_first.below held stands_first;
   }

@@ -104,7 +104,8 @@ abbrev pub SealsApart : WorldState → Type 0
 SealsApart w =
     HaveBlocksOfTheirOwn w.nodes w.history (all_sealed (events_of w.history) (first_world w.rows w.nodes))
 
--- After a synchronisation a node goes on above what it was told, and above the number of an answer that it sent.
+-- A node that takes an answer goes on above the kept number that it tells, and one that sends an answer above its own
+-- number; a reply tells the requester's marks. That both ends of an answer have the same numbers is not said here.
 abbrev pub SynchronisesAll : WorldState → Type 0
 SynchronisesAll w =
     (place : ℕ) (row : NodeRow) → slice_get w.nodes place ≡ Some row

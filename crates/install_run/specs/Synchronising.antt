@@ -1,12 +1,15 @@
 -- What synchronisations make of the numbers of the two nodes, the requester and the responder. This is statement.
+-- Each sentence is of one node and of its own steps. Left out is what ties the two nodes together: that the kept number
+-- and the number that a taken answer tells at the requester are those that the responder sealed into its reply.
 use Rattle.std.specs.Prelude.{◌≡◌, ℕ, ◌-◌, ◌<◌, max, List, [], ◌∷◌, Bool, true, false, Option, Some, None, IfSome, if◌then◌else◌}
 use Rattle.std.specs.List.{All}
 use Rattle.cemi_frames.specs.Reading.{frame_at}
 use Rattle.key_tables.specs.declared.types.Lane.{Lane}
 use Rattle.key_tables.specs.declared.types.Lane.TheVariants as lanes
-use Rattle.judge_rules.specs.Checks.{lane_in, check_stale}
+use Rattle.judge_rules.specs.Checks.{lane_in, kept_by, check_stale}
 use Rattle.judge_rules.specs.Parts.{source_of}
 use Rattle.sync_service.specs.Frames.{answer_frame}
+use Rattle.sync_service.specs.Open.{asked_of}
 use Rattle.node_core.specs.Standing.{Standing}
 use Rattle.script_text.specs.declared.event.Event.{Event}
 use Rattle.script_text.specs.declared.event.Event.TheVariants as event
@@ -108,11 +111,39 @@ RepliesTellMarks place (e ∷ events) w =
     → IfSome (answered_in (step_of e w).outcome) (λ answered. IsReply e w place answered.0))
     × RepliesTellMarks place events (after e w)
 
+-- the number of a taken answer
+abbrev pub taken_in : StepOutcome → Option ℕ
+taken_in (outcome.Synced number kept then_next) = Some number
+taken_in _ = None
+
+-- A taken answer, and its lane. Where its number was kept on it, a number above that one passes there while the mark
+-- does not rise.
+pub record IsTaken (e : Event) (w : WorldAt) (place number : ℕ) : Type 0 where
+  pub before : Standing
+  pub runs : (node_in w place).standing ≡ Some before
+  pub answer : List ℕ
+  pub brings : brought e w.air ≡ Some answer
+  pub lane : Lane
+  pub lane_is : lane_in (node_in w place).config.rows (frame_at answer) ≡ Some lane
+  pub passes : kept_by (node_in w place).config.rows (mark_on w place lane)
+      (asked_of before.pending (source_of (frame_at answer))) (frame_at answer)
+      ≡ Some (lane, number)
+      → PassesAbove number (after e w) place lane
+
+-- Each answer that the node at this place takes in one of these steps is such a one.
+abbrev pub TakenPass : ℕ → List Event → WorldAt → Type 0
+TakenPass place [] w = Unit {0}
+TakenPass place (e ∷ events) w =
+    (is_at place (place_of e) ≡ true → IfSome (taken_in (step_of e w).outcome) (λ number. IsTaken e w place number))
+    × TakenPass place events (after e w)
+
 -- ---- of a node of a script
 
--- What answers make of the numbers that the node draws, of those that it answered and of those that it took.
+-- What answers make of the numbers that the node draws and of those that pass its check, of the answers that it takes
+-- and of those that it sends.
 pub record Synchronises (place : ℕ) (row : NodeRow) (events : List Event) (first : WorldAt) (history : List Step)
     : Type 0 where
   pub takes : GoesOnAboveKept (row.next - 1) row.next (outcomes_of place history)
   pub answers : GoesOnAboveAnswers (row.next - 1) row.next (outcomes_of place history)
   pub replies : RepliesTellMarks place events first
+  pub taken : TakenPass place events first
