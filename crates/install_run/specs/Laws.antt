@@ -111,7 +111,8 @@ SynchronisesAll w =
     (place : ℕ) (row : NodeRow) → slice_get w.nodes place ≡ Some row
     → Synchronises place row (events_of w.history) (first_world w.rows w.nodes) w.history
 
--- It goes by the rules, which read the outcomes alone, and what it sealed has blocks of its own.
+-- It goes by the rules: each step is allowed after those before it, by their outcomes alone; what there is follows from
+-- its steps; and no two telegrams of its nodes have one counter block.
 pub record GoesByRules (w : WorldState) : Type 0 where
   pub legal : OnlyAllowed w
   pub fits : TellsWhatIs w
