@@ -6,6 +6,7 @@ pub mod Host
 pub mod MemSink
 pub mod MemFiles
 pub mod Shelf
+pub mod SureFiles
 pub mod Decimal
 pub mod Address
 pub mod Cause

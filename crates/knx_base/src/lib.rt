@@ -5,6 +5,7 @@
 
 mod address;
 mod cause;
+mod count_sink;
 mod decimal;
 mod faults;
 mod files;
@@ -15,11 +16,13 @@ mod mem_sink;
 mod number;
 mod shelf;
 mod sink;
+mod sure_files;
 #[cfg(test)]
 mod tests;
 
 pub use address::{GroupAddr, IndAddr};
 pub use cause::Cause;
+pub use count_sink::CountSink;
 pub use decimal::{put_decimal, put_octet, read_decimal};
 pub use faults::{Failed, NoMemory};
 pub use files::Files;
@@ -29,3 +32,4 @@ pub use mem_files::MemFiles;
 pub use mem_sink::MemSink;
 pub use number::Number48;
 pub use sink::{Sink, print_text};
+pub use sure_files::SureFiles;

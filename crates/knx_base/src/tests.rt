@@ -1,4 +1,6 @@
-use crate::{Failed, Files, LineBuf, MemFiles, MemSink, Number48, Sink, print_text};
+use crate::{
+    CountSink, Failed, Files, LineBuf, MemFiles, MemSink, Number48, Sink, SureFiles, print_text,
+};
 use std::test::Fail;
 
 #[test]
@@ -53,6 +55,30 @@ fn the_armed_call_alone_fails(rt: HostRuntime) -> Result<(), Fail> {
     assert_eq!(rt; files.open("name"), Ok(()));
     assert_eq!(rt; files.read(&mut buffer), Ok(1));
     Ok(())
+}
+
+#[test]
+fn sure_files_are_read_to_their_ends(rt: HostRuntime) -> Result<(), Fail> {
+    let mut files = SureFiles::new(rt.alloc());
+    files.add("first", b"one")?;
+    files.add("second", b"two")?;
+    let mut buffer = [0; 4];
+    assert_eq!(rt; files.open("second"), Ok(()));
+    assert_eq!(rt; files.read(&mut buffer), Ok(3));
+    assert_eq!(rt; &buffer[..3], b"two".as_slice());
+    assert_eq!(rt; files.open("first"), Ok(()));
+    assert_eq!(rt; files.read(&mut buffer), Ok(3));
+    assert_eq!(rt; &buffer[..3], b"one".as_slice());
+    assert_eq!(rt; files.read(&mut buffer), Ok(0));
+    Ok(())
+}
+
+#[test]
+fn a_counting_sink_takes_each_piece_whole(rt: HostRuntime) {
+    let mut out = CountSink::new();
+    assert_eq!(rt; out.write(b"abc"), Ok(3));
+    assert_eq!(rt; print_text(b"defg", &mut out), Ok(()));
+    assert_eq!(rt; out.count(), 7);
 }
 
 #[test]
