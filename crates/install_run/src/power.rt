@@ -11,6 +11,7 @@ use knx_base::{NoMemory, Number48};
 use node_core::{Config, Node, StartRefused};
 use nvm_model::SimNvm;
 use script_text::Marks;
+use seq_store::StoreFault;
 use std::alloc::Global;
 use std::mem;
 use step_text::StepOutcome;
@@ -110,7 +111,7 @@ impl Slot {
                 start(alloc, config, memory)
             }
             Slot::Stopped(config, memory) => start(alloc, config, memory),
-            Slot::Empty => (Slot::Empty, Err(NoMemory)),
+            Slot::Empty => unreachable!(),
         }
     }
 }
@@ -140,7 +141,7 @@ fn start(alloc: Global, config: Config, memory: SimNvm) -> (Slot, Result<StepOut
     }
 }
 
-// A node that was started, and the marks of its lanes.
+// A node that was started, and the marks of its lanes; or what was handed in, where there is no memory for them.
 #[tactic(auto, using(crate::proofs::Sounding::only_memory))]
 pub(crate) fn started(
     alloc: Global,
@@ -163,8 +164,15 @@ pub(crate) fn started(
             Err(NoMemory) => Err(node.cut()),
         },
         Err(refused) => {
-            let StartRefused { config, memory, .. } = refused;
-            Err((config, memory))
+            let StartRefused {
+                fault,
+                config,
+                memory,
+            } = refused;
+            match fault {
+                StoreFault::NoMemory => Err((config, memory)),
+                StoreFault::Unformatted(_) | StoreFault::Memory(_) => unreachable!(),
+            }
         }
     }
 }

@@ -1,4 +1,4 @@
-ghost use Rattle.std.specs.Prelude.{◌≡◌, ◌≢◌, ℕ, List, [], length, IsSome, Some, Ok, IsOk, IsErr, IfOk, OnOk, IfErr, MatchResult};
+ghost use Rattle.std.specs.Prelude.{◌≡◌, ◌≢◌, ℕ, List, [], length, IsSome, Some, None, Ok, IsOk, IsErr, IfOk, OnOk, IfErr, MatchResult};
 ghost use Rattle.std.specs.Option.{ForSome};
 ghost use Rattle.knx_base.specs.Files.{File, Seen, Holds, IsThere};
 ghost use Rattle.text_lines.specs.Reading.{WhereTold};
@@ -17,7 +17,7 @@ use crate::report::{finish, finish_frames, pass_line, stop_without_memory};
 use crate::whole_file::WholeFile;
 use audit_core::Audit;
 use frame_file::Records;
-use key_tables::{Row, Tables, read_tables};
+use key_tables::{BuildFault, Row, Tables, read_tables};
 use knx_base::{Files, Sink};
 use secure_apdu::ApduBuf;
 use std::alloc::Global;
@@ -103,6 +103,7 @@ fn laid_over<S: Sink>(
     under: Option<&[Row]>,
     out: &mut S,
 ) -> Result<Tables, Status>
+    requires stand { build_fault rows.now ≡ None }
     ensures rows { MatchResult result (λ found. laid_over (rows_of under.entry) rows.now ≡ Ok found)
         (λ status. Stops (laid_over (rows_of under.entry) rows.now) status (S.octets out.old) (S.octets out.new)) }
     ensures unwritten { OnOk result (out.new ≡ out.old) }
@@ -115,14 +116,16 @@ fn laid_over<S: Sink>(
     }
 }
 
-// Rows that a text gave may stand, so that only memory can be wanting.
+// Rows that may stand, so that only memory can be wanting.
 fn build(alloc: Global, rows: &[Row]) -> Result<Tables, Status>
+    requires stand { build_fault rows.now ≡ None }
     ensures rows { IfOk result (λ found. found ≡ rows.now) }
     ensures no_memory { IfErr result (λ status. status ≡ Status.NoMemory) }
 {
     match Tables::build(alloc, rows) {
         Ok(tables) => Ok(tables),
-        Err(_) => Err(Status::NoMemory),
+        Err(BuildFault::NoMemory) => Err(Status::NoMemory),
+        Err(_) => unreachable!(),
     }
 }
 

@@ -5,6 +5,7 @@ use std::rt;
 use std::test::Fail;
 
 mod audits;
+mod faults;
 mod keyrings;
 mod replays;
 

@@ -1,7 +1,7 @@
 -- Events that are drawn one after another.
-use Rattle.std.proofs.Common.{◌≡◌, ℕ, zero, suc, ◌+◌, ◌-◌, ◌<◌, ◌≤◌, List, [], ◌∷◌, ◌++◌, refl, sym, ap, subst, ◌∙◌, append_assoc, append-nil, arith}
+use Rattle.std.proofs.Common.{◌≡◌, ℕ, zero, suc, ◌+◌, ◌-◌, ◌<◌, ◌≤◌, List, [], ◌∷◌, ◌++◌, refl, sym, ap, subst, ◌∙◌, append_assoc, append-nil, length-append, arith}
 use Rattle.script_text.specs.Made.{event_made, events_made}
-use Rattle.script_text.specs.Said.{Before}
+use Rattle.script_text.specs.Said.{Before, is_start}
 use Rattle.script_text.specs.Lists.{added, IsDrawn, IsMade, IsWithEvents}
 use Rattle.script_text.specs.declared.event.Event.{Event}
 use Rattle.script_text.specs.declared.said.Said.TheVariants as said
@@ -15,7 +15,9 @@ none_drawn old number count none = record {
     objects_are = refl;
     marks_are = refl;
     events_are = sym (append-nil old.events);
+    begun = λ begun. begun;
   };
+  many = refl;
   follow = ap (λ n. events_made n 1 number 0) (omega arith);
   counted = omega arith;
 }
@@ -46,7 +48,9 @@ one_more_drawn old now new number count index state sends event later laterSends
         marks_are = ap (λ (b : Before). b.marks) is ∙ w.marks_are;
         events_are = ap (λ (b : Before). b.events) is ∙ ap (λ events. events ++ event ∷ []) w.events_are
             ∙ append_assoc old.events drawn.past (event ∷ []);
+        begun = λ _. ap (λ (b : Before). is_start b.stage) is;
       };
+      many = length-append drawn.past (event ∷ []) ∙ ap (λ n. n + 1) drawn.many;
       follow = append_assoc drawn.past (event ∷ []) (events_made (count - (index + 1)) (index + 1 + 1) later laterSends)
           ∙ ap (λ events. drawn.past ++ events) (sym (one_drawn (count - (index + 1)) (index + 1) state sends event
           later laterSends made))

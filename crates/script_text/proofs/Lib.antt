@@ -6,3 +6,4 @@ mod Known
 mod Whole
 mod Scripts
 mod Drawing
+mod Making

@@ -1,5 +1,5 @@
 -- What was said, as the reader holds it. This is plumbing for proofs.
-use Rattle.std.specs.Prelude.{◌≡◌, ℕ, ◌+◌, ◌-◌, ◌<◌, ◌≤◌, ◌^◌, false, true, Bool, List, [], ◌∷◌, ◌++◌, length, map, take, drop, find, Option, Some, None, Result, Ok, Err}
+use Rattle.std.specs.Prelude.{◌≡◌, ℕ, ◌+◌, ◌-◌, ◌*◌, ◌<◌, ◌≤◌, ◌^◌, false, true, Bool, List, [], ◌∷◌, ◌++◌, length, map, take, drop, find, Option, Some, None, Result, Ok, Err}
 use Rattle.std.specs.List.{list_any, All, AllPairs}
 use Rattle.knx_base.specs.declared.address.IndAddr.{IndAddr}
 use Rattle.knx_base.specs.declared.cause.Cause.{Cause}
@@ -14,7 +14,7 @@ use Rattle.knx_base.specs.declared.address.GroupAddr.{GroupAddr}
 use Rattle.script_text.specs.Made.{Made, all_flags, bits_group, octets_group, events_made, made_address, made_name, made_rows}
 use Rattle.script_text.specs.Parts.{IsName}
 use Rattle.script_text.specs.Script.{most_nodes, most_events, IsEvent}
-use Rattle.script_text.specs.Said.{Before, objects_at, is_again, lanes_at, is_crowded, crowded}
+use Rattle.script_text.specs.Said.{Before, objects_at, is_again, is_start, lanes_at, is_crowded, crowded, standing}
 use Rattle.script_text.specs.Reading.{◌>>=◌, caused, in_order, named}
 use Rattle.script_text.specs.declared.fault.Refusal.{Refusal}
 use Rattle.script_text.specs.declared.fault.Refusal.TheVariants as refusal
@@ -143,9 +143,6 @@ abbrev pub made_object_line : IndAddr → GroupAddr → ObjectValue → ObjectLi
 made_object_line node group value =
     record { node = node; row = record { group = group; flags = all_flags; value = value } }
 
-abbrev pub HasObject : Before → ObjectLine → Before → Type 0
-HasObject old object new = new ≡ lists Nodes old.rows old.nodes (old.objects ++ object ∷ []) old.marks old.events
-
 abbrev pub first_object : ℕ → ObjectLine
 first_object node = made_object_line (made_address node) bits_group (bits_value 0)
 
@@ -163,6 +160,19 @@ installed = lists Nodes made_rows (made_line 0 ∷ made_line 1 ∷ made_line 2 �
     (first_object 0 ∷ second_object 0 ∷ first_object 1 ∷ second_object 1
     ∷ first_object 2 ∷ second_object 2 ∷ first_object 3 ∷ second_object 3 ∷ []) [] []
 
+-- so many of its nodes stand, with their objects
+pub record AreInstalled (count : ℕ) (b : Before) : Type 0 where
+  pub nodes_are : b.nodes ≡ take count installed.nodes
+  pub objects_are : b.objects ≡ take (2 * count) installed.objects
+
+-- the next of them may stand, and so may its objects
+pub record NodeStands (b : Before) (node : ℕ) : Type 0 where
+  pub line : standing b (said.Node (made_line node)) ≡ None
+  pub first : standing (added b (said.Node (made_line node))) (said.Object (first_object node)) ≡ None
+  pub second : standing (added (added b (said.Node (made_line node))) (said.Object (first_object node)))
+      (said.Object (second_object node))
+      ≡ None
+
 -- with these events
 pub record IsWithEvents (old : Before) (events : List Event) (new : Before) : Type 0 where
   pub rows_are : new.rows ≡ old.rows
@@ -170,10 +180,12 @@ pub record IsWithEvents (old : Before) (events : List Event) (new : Before) : Ty
   pub objects_are : new.objects ≡ old.objects
   pub marks_are : new.marks ≡ old.marks
   pub events_are : new.events ≡ old.events ++ events
+  pub begun : is_start old.stage ≡ false → is_start new.stage ≡ false
 
 -- some events were drawn, and the draws stand where the others follow
 pub record IsDrawn (old new : Before) (number count index state sends : ℕ) : Type 0 where
   pub past : List Event
   pub with_past : IsWithEvents old past new
+  pub many : length past ≡ index
   pub follow : past ++ events_made (count - index) (index + 1) state sends ≡ events_made count 1 number 0
   pub counted : sends ≤ index

@@ -1,8 +1,10 @@
-ghost use Rattle.std.specs.Prelude.{◌≡◌, ℕ, ◌+◌, ◌<◌, ◌≤◌, ◌∷◌, ◌++◌, false, [], length, IfOk, OnOk};
+ghost use Rattle.std.specs.Prelude.{◌≡◌, ℕ, ◌+◌, ◌<◌, ◌≤◌, ◌∷◌, ◌++◌, false, [], length, None, IfErr, IfOk, OnOk};
 ghost use Rattle.std.specs.List.{list_any};
+ghost use Rattle.key_tables.specs.Build.{first_fault};
 ghost use Rattle.key_tables.specs.Lanes.{is_any};
-ghost use Rattle.script_text.specs.Lists.{installed, made_object_line, HasNode, HasObject, HasRows, IsWithEvents};
+ghost use Rattle.script_text.specs.Lists.{added, first_object, installed, made_line, made_object_line, second_object, AreInstalled, HasNode, HasRows, IsSaid, IsWithEvents};
 ghost use Rattle.script_text.specs.Made.{events_made, group_role, made_name, made_rows, made_script, tool_role, tool_row};
+ghost use Rattle.script_text.specs.Said.{standing};
 ghost use Rattle.script_text.specs.Script.{IsScript};
 
 use crate::draws::{Draws, FIRST_ADDRESS};
@@ -12,7 +14,7 @@ use crate::octets::Octets;
 use crate::reader::Reader;
 use crate::reading::finish;
 use crate::said::{NodeLine, ObjectLine, Said, Stage};
-use crate::{Name, Script};
+use crate::{Name, Script, ScriptFault};
 use group_objects::{Flags, ObjectRow, Value};
 use key_tables::{Channel, Level, Role, Row};
 use knx_base::{GroupAddr, IndAddr, NoMemory, Number48};
@@ -27,25 +29,31 @@ const OCTETS: GroupAddr = GroupAddr(0x0802);
 /// A script that is made from a number: four nodes with two objects each, which are all of two groups, and so many
 /// events that are drawn: sends, values that are set, deliveries of a telegram that was sent lately, requests of
 /// synchronisation, cuts of power inside a memory write, and starts. A number and a count make one script.
+#[tactic(auto, using(crate::proofs::Making::script_refused))]
 pub fn make_script(alloc: Global, number: u32, count: u32) -> Result<Script, NoMemory>
     requires some { 1 ≤ count }
     requires most { count ≤ 100000 }
     ensures script { IfOk result (λ script. script ≡ made_script number count) }
     ensures keeps { IfOk result (λ script. IsScript script.rows script.nodes script.events) }
 {
-    // Nothing of it can be refused, so it is memory that is wanting.
-    match made_lists(alloc, number, count) {
-        Ok(lists) => match finish(Reader::of_lists(alloc, lists), alloc) {
-            Ok(script) => Ok(script),
-            Err(_) => Err(NoMemory),
-        },
-        Err(_) => Err(NoMemory),
+    let lists = match made_lists(alloc, number, count) {
+        Ok(lists) => lists,
+        Err(Refusal::NoMemory) => return Err(NoMemory),
+        Err(_) => unreachable!(),
+    };
+    match finish(Reader::of_lists(alloc, lists), alloc) {
+        Ok(script) => Ok(script),
+        Err(ScriptFault::NoMemory) => Err(NoMemory),
+        Err(_) => unreachable!(),
     }
 }
 
+// Nothing of it is refused, so that only memory can be wanting.
+#[tactic(auto, using(crate::proofs::Making::only_memory))]
 fn made_lists(alloc: Global, number: u32, count: u32) -> Result<Lists, Refusal>
     requires most { count ≤ 100000 }
     ensures made { IfOk result (λ lists. IsWithEvents installed (events_made count 1 number 0) lists) }
+    ensures memory { IfErr result (λ why. why ≡ Refusal.NoMemory) }
 {
     let mut lists = Lists::new(alloc);
     lists.add(Said::Head)?;
@@ -58,10 +66,13 @@ fn made_lists(alloc: Global, number: u32, count: u32) -> Result<Lists, Refusal>
     Ok(lists)
 }
 
+#[tactic(auto, using(crate::proofs::Making::row_refused))]
 fn add_rows(list: &mut Lists, rows: &[Row]) -> Result<(), Refusal>
     requires begun { list.old.stage ≡ Stage.Rows }
     requires named { list_any is_any rows.now ≡ false }
+    requires stand { first_fault list.old.rows rows.now ≡ None }
     ensures added { OnOk result (HasRows list.old rows.now list.new) }
+    ensures memory { IfErr result (λ why. why ≡ Refusal.NoMemory) }
 {
     for index in 0..rows.len() {
         list.add(Said::Row(rows[index]))?;
@@ -71,27 +82,65 @@ fn add_rows(list: &mut Lists, rows: &[Row]) -> Result<(), Refusal>
 
 fn add_node(list: &mut Lists, node: u16) -> Result<(), Refusal>
     requires four { node < 4 }
+    requires before { AreInstalled node list.old }
     ensures added { OnOk result (HasNode list.old node list.new) }
+    ensures installed { OnOk result (AreInstalled (node + 1) list.new) }
+    ensures memory { IfErr result (λ why. why ≡ Refusal.NoMemory) }
 {
-    let address = IndAddr(FIRST_ADDRESS + node);
-    list.add(Said::Node(NodeLine {
-        line: 0,
-        name: made_name(node),
-        address,
-        next: Number48::new(1).unwrap(),
-    }))?;
-    add_object(list, address, BITS, Value::bits(0).unwrap())?;
-    add_object(list, address, OCTETS, Value::octets(&[0, 0]).unwrap())
+    add_made(list, Said::Node(made_line(node)))?;
+    add_made(list, Said::Object(first_object(node)))?;
+    add_made(list, Said::Object(second_object(node)))?;
+    Ok(())
 }
 
-fn add_object(
-    list: &mut Lists,
-    node: IndAddr,
-    group: GroupAddr,
-    value: Value,
-) -> Result<(), Refusal>
-    requires some { 0 < group.0 }
-    ensures added { OnOk result (HasObject list.old (made_object_line node group value) list.new) }
+// Adds what may stand here.
+#[tactic(auto, using(crate::proofs::Making::only_memory))]
+fn add_made(list: &mut Lists, said: Said) -> Result<(), Refusal>
+    requires said { IsSaid (length list.old.nodes) said }
+    requires stands { standing list.old said ≡ None }
+    ensures added { OnOk result (list.new ≡ added list.old said) }
+    ensures memory { IfErr result (λ why. why ≡ Refusal.NoMemory) }
+{
+    list.add(said)?;
+    Ok(())
+}
+
+fn made_line(node: u16) -> NodeLine
+    requires four { node < 4 }
+    ensures { result ≡ made_line node }
+{
+    NodeLine {
+        line: 0,
+        name: made_name(node),
+        address: IndAddr(FIRST_ADDRESS + node),
+        next: Number48::new(1).unwrap(),
+    }
+}
+
+fn first_object(node: u16) -> ObjectLine
+    requires four { node < 4 }
+    ensures { result ≡ first_object node }
+{
+    made_object_line(
+        IndAddr(FIRST_ADDRESS + node),
+        BITS,
+        Value::bits(0).unwrap(),
+    )
+}
+
+fn second_object(node: u16) -> ObjectLine
+    requires four { node < 4 }
+    ensures { result ≡ second_object node }
+{
+    made_object_line(
+        IndAddr(FIRST_ADDRESS + node),
+        OCTETS,
+        Value::octets(&[0, 0]).unwrap(),
+    )
+}
+
+fn made_object_line(node: IndAddr, group: GroupAddr, value: Value) -> ObjectLine
+    ensures { result ≡ made_object_line node group value }
 {
     let flags = Flags {
         reads: true,
@@ -99,22 +148,23 @@ fn add_object(
         updates: true,
         transmits: true,
     };
-    list.add(Said::Object(ObjectLine {
+    ObjectLine {
         node,
         row: ObjectRow {
             group,
             flags,
             value,
         },
-    }))
+    }
 }
 
-#[tactic(auto, using(crate::proofs::Drawing::none_drawn, crate::proofs::Drawing::one_more_drawn, crate::proofs::Drawing::all_drawn))]
+#[tactic(auto, using(crate::proofs::Drawing::none_drawn, crate::proofs::Drawing::one_more_drawn, crate::proofs::Drawing::all_drawn, crate::proofs::Making::event_refused))]
 fn add_events(list: &mut Lists, number: u32, count: u32) -> Result<(), Refusal>
     requires four { length list.old.nodes ≡ 4 }
     requires none { list.old.events ≡ [] }
     requires most { count ≤ 100000 }
     ensures added { OnOk result (IsWithEvents list.old (events_made count 1 number 0) list.new) }
+    ensures memory { IfErr result (λ why. why ≡ Refusal.NoMemory) }
 {
     let mut draws = Draws {
         state: number as u64,

@@ -26,17 +26,16 @@ pub fn print_step_line<S: Sink>(
     put_said(outcome, &mut line);
     match outcome {
         StepOutcome::On { marks, .. } => print_restored(&line, lanes, marks, out),
-        _ => print_ended(line, out),
+        _ => print_ended(&mut line, out),
     }
 }
 
 // Prints a line with its end.
-fn print_ended<S: Sink>(line: LineBuf, out: &mut S) -> Result<(), Failed>
-    requires room { length line + 1 ≤ 1024 }
-    ensures text { Prints (S.octets out.old) (S.octets out.new) result (line ++ 10 ∷ []) }
+fn print_ended<S: Sink>(line: &mut LineBuf, out: &mut S) -> Result<(), Failed>
+    requires room { length line.old + 1 ≤ 1024 }
+    ensures text { Prints (S.octets out.old) (S.octets out.new) result (line.old ++ 10 ∷ []) }
     ensures cause { HasCause (S.faults out.old) (S.faults out.new) result }
 {
-    let mut line = line;
     line.octet(b'\n');
     print_text(line.bytes(), out)
 }

@@ -9,7 +9,7 @@ use std::alloc::Global;
 use std::fs;
 use std::test::Fail;
 
-const TABLES: &str =
+pub(super) const TABLES: &str =
     "group 1/2/3 000102030405060708090a0b0c0d0e0f conf\nrole 1/2/3 1.1.7 command\n";
 
 const AUTH_TABLES: &str =
@@ -28,7 +28,7 @@ const DOUBLED_TABLES: &str =
     "group 1/2/3 000102030405060708090a0b0c0d0e0f conf\ngroup 1/515 000102030405060708090a0b0c0d0e0f auth\n";
 
 /// From 1.1.7 to the group 1/2/3 under number 5, a GroupValue_Write of 1: twice, and the second time as a repetition.
-const TWICE: &str =
+pub(super) const TWICE: &str =
     "2900bce011070a030e03f1100000000000050d5858028267\n2900bce011070a030e03f1100000000000050d5858028267\n";
 
 const REPEATED: &str =
@@ -50,7 +50,7 @@ const DEVICE_TABLES: &str = "group 1/2/3 000102030405060708090a0b0c0d0e0f conf\n
 const EXCHANGE: &str = "29003c60110711091203f192000000000002fd82b40668d40a240653\n\
      29003c60110911071803f193010203040507447c61778fc4ec5016de976dd7fdfa50\n";
 
-fn audit_words(alloc: Global) -> Result<Vec<String>, NoMemory>
+pub(super) fn audit_words(alloc: Global) -> Result<Vec<String>, NoMemory>
     ensures { IfOk result (λ words. map string_bytes words.items ≡ codes "audit" ∷ codes "tables" ∷ codes "frames"
         ∷ []) }
 {

@@ -7,7 +7,7 @@ use std::alloc::Global;
 use std::test::Fail;
 
 // Signed, and its keys wrapped, by another program, under the password `test-password`.
-const HOUSE: &str = r#"<?xml version="1.0" encoding="utf-8"?>
+pub(super) const HOUSE: &str = r#"<?xml version="1.0" encoding="utf-8"?>
 <Keyring Project="House" CreatedBy="ETS" Created="2024-03-01T10:00:00" Signature="bc3iyTunJTlYq6ukzr+EyA==" xmlns="http://knx.org/xml/keyring/1">
   <Interface Type="USB" IndividualAddress="1.1.1">
     <Group Address="1/0/1" Senders="1.1.10 1.1.11" />
@@ -34,10 +34,10 @@ const HOUSE: &str = r#"<?xml version="1.0" encoding="utf-8"?>
 
 /// One telegram to each of two groups of the keyring, by different senders, each a GroupValue_Write of 1 that another
 /// program has sealed under the key of its group.
-const FRAMES: &str =
+pub(super) const FRAMES: &str =
     "2900bce0110a08010e03f110000000000001362b1d3d40f2\n2900bce0111408060e03f11000000000000c8ce297509ace\n";
 
-const REPORT: &str = "1 1.1.10 > 1/0/1 accepted number 1 GroupValue_Write 0081\n\
+pub(super) const REPORT: &str = "1 1.1.10 > 1/0/1 accepted number 1 GroupValue_Write 0081\n\
      2 1.1.20 > 1/0/6 accepted number 12 GroupValue_Write 0081\n\
      total 2 accepted 2 sync 0 alarms 0\n";
 
@@ -95,9 +95,9 @@ total 13 accepted 4 sync 0 alarms 6
 "#;
 
 /// The number of a call that is never made.
-const NEVER: u64 = 1_000_000;
+pub(super) const NEVER: u64 = 1_000_000;
 
-fn audit_words(alloc: Global) -> Result<Vec<String>, NoMemory>
+pub(super) fn audit_words(alloc: Global) -> Result<Vec<String>, NoMemory>
     ensures { IfOk result (λ words. map string_bytes words.items ≡ codes "audit-keyring" ∷ codes "keyring"
         ∷ codes "password" ∷ codes "tables" ∷ codes "frames" ∷ []) }
 {
@@ -111,7 +111,7 @@ fn audit_words(alloc: Global) -> Result<Vec<String>, NoMemory>
 }
 
 // What an audit by a keyring prints, where the call on the files with this number fails, and its status.
-fn audited(
+pub(super) fn audited(
     alloc: Global,
     keyring: &str,
     password: &str,

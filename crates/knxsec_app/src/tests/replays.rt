@@ -76,20 +76,20 @@ const LAMP_DARK: (&str, usize) = (
 // A script, and the pieces of its report, each with so many octets of zeros behind it: a memory begins with a bank of a
 // gate, a generation of eight octets, numbers of six, and records of a gate, an index and a number.
 #[derive(Drop)]
-struct Row {
+pub(super) struct Row {
     head: &'static str,
     events: &'static str,
     report: &'static [(&'static str, usize)],
 }
 
 impl Row {
-    fn script(&self, alloc: Global) -> Result<String, Fail> {
+    pub(super) fn script(&self, alloc: Global) -> Result<String, Fail> {
         let mut text = String::from_str(alloc, self.head)?;
         text.push_str(self.events)?;
         Ok(text)
     }
 
-    fn report(&self, alloc: Global) -> Result<String, Fail> {
+    pub(super) fn report(&self, alloc: Global) -> Result<String, Fail> {
         let mut text = String::new(alloc);
         for (piece, zeros) in self.report {
             text.push_str(piece)?;
@@ -104,7 +104,30 @@ impl Row {
     }
 }
 
-fn replay_words(alloc: Global) -> Result<Vec<String>, Fail>
+// A telegram is acted on once, and is gone where it was lost.
+pub(super) const ONE_WRITE: Row = Row {
+    head: PLAIN,
+    events: "send push 0 write\n\
+             deliver 1 lamp\n\
+             deliver 1 lamp\n\
+             lose 1\n\
+             deliver 1 lamp\n",
+    report: &[
+        (
+            "1 air 1 number 1\n\
+             2 acted number 1 lane run:1.1.7 GroupValue_Write object 0 value 01\n\
+             3 stale kept 1 got 1\n\
+             4 lost\n\
+             5 gone\n",
+            0,
+        ),
+        PUSH,
+        LAMP_LIT,
+        ("events 5 telegrams 1\n", 0),
+    ],
+};
+
+pub(super) fn replay_words(alloc: Global) -> Result<Vec<String>, Fail>
     ensures { IfOk result (λ words. map string_bytes words.items ≡ codes "replay" ∷ codes "script" ∷ []) }
 {
     let mut words = Vec::new(alloc);
@@ -135,28 +158,7 @@ fn replayed(
 fn each_event_is_told_and_how_it_ends(rt: HostRuntime) -> Result<(), Fail> {
     let alloc = rt.alloc();
     let rows = [
-        // A telegram is acted on once, and is gone where it was lost.
-        Row {
-            head: PLAIN,
-            events: "send push 0 write\n\
-                     deliver 1 lamp\n\
-                     deliver 1 lamp\n\
-                     lose 1\n\
-                     deliver 1 lamp\n",
-            report: &[
-                (
-                    "1 air 1 number 1\n\
-                     2 acted number 1 lane run:1.1.7 GroupValue_Write object 0 value 01\n\
-                     3 stale kept 1 got 1\n\
-                     4 lost\n\
-                     5 gone\n",
-                    0,
-                ),
-                PUSH,
-                LAMP_LIT,
-                ("events 5 telegrams 1\n", 0),
-            ],
-        },
+        ONE_WRITE,
         // The number is torn under a closed gate, and the mark is as before.
         Row {
             head: PLAIN,
