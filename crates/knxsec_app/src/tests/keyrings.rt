@@ -32,14 +32,34 @@ pub(super) const HOUSE: &str = r#"<?xml version="1.0" encoding="utf-8"?>
 </Keyring>
 "#;
 
-/// One telegram to each of two groups of the keyring, by different senders, each a GroupValue_Write of 1 that another
-/// program has sealed under the key of its group.
-pub(super) const FRAMES: &str =
-    "2900bce0110a08010e03f110000000000001362b1d3d40f2\n2900bce0111408060e03f11000000000000c8ce297509ace\n";
+/// Two telegrams to each of the six groups of the keyring, each a GroupValue_Write of 1 that another program has sealed
+/// under the key of its group.
+pub(super) const FRAMES: &str = "2900bce0110a08010e03f110000000000001362b1d3d40f2\n\
+     2900bce0110b08010e03f11000000000000298501029015f\n\
+     2900bce0110a08020e03f11000000000000341f38d59e3ca\n\
+     2900bce0110108020e03f110000000000004203d84567f25\n\
+     2900bce0110c08030e03f1100000000000051932959dee24\n\
+     2900bce0110308030e03f110000000000006ae883063855e\n\
+     2900bce0111408040e03f1100000000000076a3faef7a5d6\n\
+     2900bce0111408040e03f110000000000008d2b3ce3b021d\n\
+     2900bce0111408050e03f1100000000000098beaf4393316\n\
+     2900bce0111408050e03f11000000000000a8912efbf44c9\n\
+     2900bce0111408060e03f11000000000000b0b174ddaf569\n\
+     2900bce0111408060e03f11000000000000c8ce297509ace\n";
 
 pub(super) const REPORT: &str = "1 1.1.10 > 1/0/1 accepted number 1 GroupValue_Write 0081\n\
-     2 1.1.20 > 1/0/6 accepted number 12 GroupValue_Write 0081\n\
-     total 2 accepted 2 sync 0 alarms 0\n";
+     2 1.1.11 > 1/0/1 accepted number 2 GroupValue_Write 0081\n\
+     3 1.1.10 > 1/0/2 accepted number 3 GroupValue_Write 0081\n\
+     4 1.1.1 > 1/0/2 accepted number 4 GroupValue_Write 0081\n\
+     5 1.1.12 > 1/0/3 accepted number 5 GroupValue_Write 0081\n\
+     6 1.1.3 > 1/0/3 accepted number 6 GroupValue_Write 0081\n\
+     7 1.1.20 > 1/0/4 accepted number 7 GroupValue_Write 0081\n\
+     8 1.1.20 > 1/0/4 accepted number 8 GroupValue_Write 0081\n\
+     9 1.1.20 > 1/0/5 accepted number 9 GroupValue_Write 0081\n\
+     10 1.1.20 > 1/0/5 accepted number 10 GroupValue_Write 0081\n\
+     11 1.1.20 > 1/0/6 accepted number 11 GroupValue_Write 0081\n\
+     12 1.1.20 > 1/0/6 accepted number 12 GroupValue_Write 0081\n\
+     total 12 accepted 12 sync 0 alarms 0\n";
 
 /// The tables, the recording and the report of the folder `examples`: its telegrams were sealed by another program, and
 /// its report was written by the rules.
@@ -199,6 +219,19 @@ fn another_document_has_another_signature(rt: HostRuntime) -> Result<(), Fail> {
     let changed = HOUSE.replace(rt.alloc(), "House", "Hause")?;
     let (out, status) = audited(rt.alloc(), &changed, "test-password", "", FRAMES, NEVER)?;
     assert!(rt; out.bytes().starts_with(b"refused keyring signature "));
+    assert_eq!(rt; status, Status::Refused);
+    Ok(())
+}
+
+#[test]
+fn a_text_that_is_too_long_to_be_signed_is_refused(rt: HostRuntime) -> Result<(), Fail> {
+    let alloc = rt.alloc();
+    let longest = HOUSE.replace(alloc, "House", &"H".repeat(alloc, 255)?)?;
+    let (out, _) = audited(alloc, &longest, "test-password", "", FRAMES, NEVER)?;
+    assert!(rt; out.bytes().starts_with(b"refused keyring signature "));
+    let longer = HOUSE.replace(alloc, "House", &"H".repeat(alloc, 256)?)?;
+    let (out, status) = audited(alloc, &longer, "test-password", "", FRAMES, NEVER)?;
+    assert_eq!(rt; out.bytes(), b"refused keyring at 39 long-text\n".as_slice());
     assert_eq!(rt; status, Status::Refused);
     Ok(())
 }
