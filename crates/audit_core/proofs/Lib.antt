@@ -1,4 +1,3 @@
 pub mod Knowing
 pub mod Lanes
 pub mod Exchanging
-pub mod Exchanges

@@ -2,4 +2,3 @@ pub mod Audit
 pub mod Marks
 pub mod State
 pub mod Text
-pub mod Exchange

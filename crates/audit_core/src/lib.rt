@@ -4,7 +4,6 @@
 
 mod audit;
 mod judging;
-mod law;
 mod line;
 mod marks;
 mod past;
@@ -14,6 +13,6 @@ mod tally;
 mod tests;
 
 pub use audit::Audit;
-pub use law::exchange_is_judged;
+pub use exchange_law::exchange_is_judged;
 pub use line::{Addresses, Line};
 pub use print::print_line;

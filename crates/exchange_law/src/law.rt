@@ -1,12 +1,12 @@
-ghost use Rattle.audit_core.specs.Exchange.{RequestIsJudged, AnswerIsJudged};
+ghost use Rattle.exchange_law.specs.Exchange.{AreBetween, RequestIsJudged, AnswerIsJudged};
 
 use aes_modes::Key128;
 use knx_base::{IndAddr, Number48};
 use secure_apdu::xor_number;
 
-/// The law of a synchronisation: what `sync_service::ask` and `answer` write is judged as what it is, with its
-/// numbers, under rows
-/// whose channel of the frame has the key, and an answer under its challenge; or its sender may not send.
+/// The law of a synchronisation: what `sync_service::ask` and `answer` write is read as a telegram from the one device
+/// to the other with tool access, and is judged as what it is, with its numbers, under rows whose channel of the frame
+/// has the key, and an answer under its challenge; or its sender may not send.
 pub fn exchange_is_judged(
     key: &Key128,
     source: IndAddr,
@@ -15,6 +15,7 @@ pub fn exchange_is_judged(
     challenge: [u8; 6],
     kept: Number48,
 )
+    ensures between { AreBetween key.now source destination number challenge kept }
     ensures request { RequestIsJudged key.now source destination number challenge }
     ensures answer { AnswerIsJudged key.now source destination number challenge kept }
 {

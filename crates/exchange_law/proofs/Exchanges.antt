@@ -1,8 +1,7 @@
 -- A telegram that was sealed opens where it is judged under the key and the number of its sealing.
-use Rattle.std.proofs.Common.{◌≡◌, ℕ, ◌+◌, ◌-◌, ◌*◌, ◌/◌, ◌%◌, ◌^◌, ◌<◌, ◌≤◌, ◌&&◌, ◌||◌, Bool, true, false, cond, eqb, nat_lt, nat_le, List, [], ◌∷◌, ◌++◌, length, drop, Option, Some, None, Result, Ok, Err, inl, inr, refl, sym, ap, subst, ◌∙◌, arith, length-append, length-drop}
+use Rattle.std.proofs.Common.{◌≡◌, ℕ, ◌+◌, ◌-◌, ◌*◌, ◌/◌, ◌%◌, ◌^◌, ◌<◌, ◌≤◌, ◌&&◌, ◌||◌, Bool, true, false, cond, eqb, nat_lt, nat_le, List, [], ◌∷◌, ◌++◌, length, drop, Option, Some, None, inl, inr, refl, sym, ap, subst, ◌∙◌, arith, length-append, length-drop}
 use Rattle.std.specs.Prelude.{if◌then◌else◌, ◌==◌, slice_index, unwrap_or}
 use Rattle.std.specs.Option.{is_some, option_map}
-use Rattle.std.specs.Result.{result_ok}
 use Rattle.std.proofs.lemmas.Option.{none-some}
 use Rattle.std.proofs.lemmas.List.{length-take}
 use Rattle.std.proofs.lemmas.Bool.{eq-eqb}
@@ -15,8 +14,6 @@ use Rattle.cemi_frames.specs.declared.frame.Code.TheVariants.{Ind}
 use Rattle.cemi_frames.specs.Fields.{message, info_octets, long_octets}
 use Rattle.cemi_frames.specs.Frames.{Telegram, said_by, repeat_mark}
 use Rattle.cemi_frames.specs.Reading.{frame_at}
-use Rattle.cemi_frames.specs.Faults.{frame_fault}
-use Rattle.cemi_frames.specs.declared.frame.NotFrame.{NotFrame}
 use Rattle.secure_apdu.specs.declared.sealing.SendHead.{SendHead}
 use Rattle.plain_apdu.specs.Apdu.{apci_of}
 use Rattle.plain_apdu.specs.Tpci as kinds
@@ -26,7 +23,7 @@ use Rattle.secure_apdu.specs.Sync.{xor_number}
 use Rattle.secure_apdu.specs.SealedFrame.{sealed_frame, sealed_head, sealed_fields, sealed_content}
 use Rattle.key_tables.specs.declared.types.Channel.{Channel}
 use Rattle.key_tables.specs.declared.types.Row.{Row}
-use Rattle.key_tables.specs.Rows.{key_of, role_of, receiver_may}
+use Rattle.key_tables.specs.Rows.{key_of, role_of, receiver_may, channel_of}
 use Rattle.judge_rules.specs.declared.verdict.Verdict.{Verdict}
 use Rattle.judge_rules.specs.declared.verdict.Verdict.TheVariants as verdict
 use Rattle.judge_rules.specs.Parts.{sync_service, body_in, head_in, number_in, channel_in, source_of}
@@ -34,18 +31,13 @@ use Rattle.judge_rules.specs.Checks.{plain_service, check_payload, check_sender,
 use Rattle.judge_rules.proofs.Judging.{opened_verdict}
 use Rattle.knx_base.specs.declared.address.IndAddr.{IndAddr}
 use Rattle.sync_service.specs.Frames.{ask_head, answer_head, answer_payload}
-use Rattle.audit_core.specs.Audit.{unless_fault, telegram_in}
-use Rattle.audit_core.specs.Exchange.{OrSender, RequestIsJudged, AnswerIsJudged}
+use Rattle.exchange_law.specs.Exchange.{IsBetween, AreBetween, OrSender, RequestIsJudged, AnswerIsJudged}
 
 -- ---- the telegram that a sealed frame is
 
 abbrev pub sealed_telegram : List ℕ → SendHead → List ℕ → Telegram
 sealed_telegram key head apdu =
     let fields = sealed_fields head (sealed_content key head apdu) in said_by Ind (repeat_mark fields.control) fields
-
-read_is : (fault : Option NotFrame) (u t : Telegram) → unless_fault fault u ≡ Ok t → u ≡ t
-read_is None u t is = ap (λ (r : Result Telegram NotFrame). unwrap_or (result_ok r) u) is
-read_is (Some fault) u t is = absurd cc
 
 word_back : (n : ℕ) → n / 256 * 256 + n % 256 ≡ n
 word_back n = omega arith
@@ -56,11 +48,28 @@ unfolding sealed_frame message info_octets long_octets frame_at
 sealed_frame_at key head apdu = λ i. record (sealed_telegram key head apdu)
     { source = word_back head.source.0 i; destination = word_back head.destination i }
 
-sealed_frame_is : (key : List ℕ) (head : SendHead) (apdu : List ℕ) (t : Telegram)
-    → telegram_in (sealed_frame key head apdu) ≡ Ok t → t ≡ sealed_telegram key head apdu
-sealed_frame_is key head apdu t is =
-    sym (read_is (frame_fault (sealed_frame key head apdu)) (frame_at (sealed_frame key head apdu)) t is)
-    ∙ sealed_frame_at key head apdu
+-- it is a telegram between its devices, where it has tool access and is for no group
+between : (key : List ℕ) (source destination : IndAddr) (head : SendHead) (apdu : List ℕ)
+    → IsBetween source destination (sealed_telegram key head apdu)
+    → IsBetween source destination (frame_at (sealed_frame key head apdu))
+between key source destination head apdu is =
+    subst (IsBetween source destination) (sym (sealed_frame_at key head apdu)) is
+
+-- so its channel is the one between them
+pub channel_between : (rows : List Row) (source destination : IndAddr) (t : Telegram) → IsBetween source destination t
+    → channel_in rows t ≡ channel_of rows false true source destination.0
+unfolding channel_in
+channel_between rows source destination t is =
+    λ i. channel_of rows (is.device i) (is.tool i) (is.source_is i) (is.destination_is i)
+
+pub are_between : (key : List ℕ) (source destination : IndAddr) (number : ℕ) (challenge : List ℕ) (kept : ℕ)
+    → AreBetween key source destination number challenge kept
+are_between key source destination number challenge kept = record {
+  request = between key source destination (ask_head source destination number) challenge
+      (record { source_is = refl; destination_is = refl; device = refl; tool = refl });
+  answer = between key source destination (answer_head source destination number challenge) (answer_payload number kept)
+      (record { source_is = refl; destination_is = refl; device = refl; tool = refl });
+}
 
 opened_sealed : (key : List ℕ) (head : SendHead) (apdu : List ℕ)
     → opened key (sealed_head head) (sealed key (sealed_head head) apdu) ≡ Some apdu
@@ -185,9 +194,9 @@ module _ (key : List ℕ) (source destination : IndAddr) (number : ℕ) (challen
       ∷ [])
 
   pub request_judged : RequestIsJudged key source destination number challenge
-  request_judged rows mark asked t under =
+  request_judged rows mark asked under =
       let head = ask_head source destination number in
-      let is : t ≡ sealed_telegram key head challenge = sealed_frame_is key head challenge t under.read in
+      let is = sealed_frame_at key head challenge in
       let is_channel : channel_in rows (sealed_telegram key head challenge) ≡ Some under.channel =
       ap (channel_in rows) (sym is) ∙ under.channel_is in
       subst (λ t. OrSender (verdict.SyncAsk number challenge) (verdict_of rows mark asked t)) (sym is)
@@ -227,10 +236,10 @@ module _ (key : List ℕ) (source destination : IndAddr) (number : ℕ) (challen
       ∷ [])
 
   pub answer_judged : AnswerIsJudged key source destination number challenge kept
-  answer_judged rows mark t under =
+  answer_judged rows mark under =
       let head = answer_head source destination number challenge in
       let payload = answer_payload number kept in
-      let is : t ≡ sealed_telegram key head payload = sealed_frame_is key head payload t under.read in
+      let is = sealed_frame_at key head payload in
       let is_channel : channel_in rows (sealed_telegram key head payload) ≡ Some under.channel =
       ap (channel_in rows) (sym is) ∙ under.channel_is in
       let said = first_value number kept fits in

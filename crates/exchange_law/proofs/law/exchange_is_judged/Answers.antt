@@ -1,7 +1,11 @@
 use Rattle.std.proofs.Common.{ℕ, ◌^◌, ◌<◌, ap, sym, subst, ◌∙◌, rules}
 use Rattle.secure_apdu.specs.Sync.{xor_number}
-use Rattle.audit_core.proofs.Exchanges.{request_judged, answer_judged}
-use Rattle.audit_core.proofs.law.exchange_is_judged.Goals as goal
+use Rattle.exchange_law.proofs.Exchanges.{are_between, request_judged, answer_judged}
+use Rattle.exchange_law.proofs.law.exchange_is_judged.Goals as goal
+
+pub returns-clause-between : goal.returns-clause-between
+returns-clause-between c =
+    are_between c.args.key.now c.args.source c.args.destination c.args.number c.args.challenge c.args.kept
 
 pub returns-clause-request : goal.returns-clause-request
 returns-clause-request c = request_judged c.args.key.now c.args.source c.args.destination c.args.number c.args.challenge
