@@ -17,6 +17,7 @@ use Rattle.install_run.proofs.Legality.{legal, fits}
 use Rattle.install_run.proofs.Calming.{starts_as_kept}
 use Rattle.install_run.proofs.Following.{counts_on, asks_once}
 use Rattle.install_run.proofs.Synchronised.{synchronises}
+use Rattle.install_run.proofs.Exchanged.{ends_agree}
 use Rattle.install_run.proofs.Verifying.{acts_on_verified}
 use Rattle.install_run.proofs.Delivering.{acts_on_all_deliverable}
 use Rattle.install_run.proofs.Sealing.{blocks_of_their_own}
@@ -50,6 +51,9 @@ goes_by_rules rows nodes places air history w run is =
       counts = λ place row. counts_on rows nodes (world_in places air) history place row run.run run.held;
       asks = λ place row. asks_once rows nodes (world_in places air) history place row run.run run.held;
       seals = blocks_of_their_own rows nodes (world_in places air) history run.run run.held;
-      synchronises = λ place row at.
-          synchronises rows nodes (world_in places air) history place row run.run run.held at;
+      synchronises = record {
+        each = λ place row at.
+            synchronises rows nodes (world_in places air) history place row run.run run.held at;
+        ends = ends_agree rows nodes (world_in places air) history run.run run.held;
+      };
     })

@@ -24,6 +24,9 @@ mod Sealing
 mod Replying
 mod Taken
 mod Synchronised
+mod Fitted
+mod Lasting
+mod Exchanged
 mod Lawful
 mod Ending
 mod Summing

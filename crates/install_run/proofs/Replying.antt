@@ -12,6 +12,7 @@ use Rattle.plain_apdu.specs.declared.service.Service.{Service}
 use Rattle.key_tables.specs.declared.types.Channel.{Channel}
 use Rattle.key_tables.specs.declared.types.Lane.{Lane}
 use Rattle.key_tables.specs.declared.types.Lane.TheVariants as lanes
+use Rattle.key_tables.specs.declared.types.Row.{Row}
 use Rattle.key_tables.specs.Rows.{key_of}
 use Rattle.judge_rules.specs.declared.verdict.Verdict.{Verdict}
 use Rattle.judge_rules.specs.declared.verdict.Verdict.TheVariants as verdict
@@ -85,9 +86,13 @@ none_sent count (Err (fault.Memory nvm.Failed)) = record { answers = refl; takes
 
 -- ---- the frame of a reply
 
--- a frame was sealed under the next number, with some key
-record Seals (frame : List ℕ → ℕ → List ℕ) (next : ℕ) (sent : Option (List ℕ)) : Type 0 where
+-- a frame was sealed under the next number, with the key of this channel
+record Seals (rows : List Row) (found : Option Channel) (frame : List ℕ → ℕ → List ℕ) (next : ℕ)
+    (sent : Option (List ℕ)) : Type 0 where
+  channel : Channel
+  channel_is : found ≡ Some channel
   key : List ℕ
+  key_is : key_of rows channel ≡ Some key
   is : sent ≡ Some (frame key next)
 
 -- the reply of a transition to a request of this lane, and the marks that it leaves
@@ -95,7 +100,10 @@ record Replies (c : ConfigState) (s : Standing) (request : List ℕ) (t : Transi
     : Type 0 where
   lane : Lane
   lane_is : lane_in c.rows (frame_at request) ≡ Some lane
+  channel : Channel
+  channel_is : device_channel c (source_of (frame_at request)) ≡ Some channel
   key : List ℕ
+  key_is : key_of c.rows channel ≡ Some key
   frame_is : t.frame
       ≡ Some (answer_frame key c.address (source_of (frame_at request)) s.next challenge
       (mark_told c t.after (source_of (frame_at request)) lane))
@@ -104,61 +112,71 @@ module _ (count : ℕ) where
   abbrev Says : Outcome → List ℕ × ℕ → Type 0
   Says o answered = answered_in (receive_told count o) ≡ Some answered
 
-  drawing_seals : (none_left : Bool) (frame : List ℕ → ℕ → List ℕ) (key challenge : List ℕ) (s : Standing)
+  -- it is the answer to this challenge, and its frame is this one
+  record SealsOne (sent : Option (List ℕ)) (frame : List ℕ) (challenge : List ℕ) (answered : List ℕ × ℕ)
+      : Type 0 where
+    is : sent ≡ Some frame
+    challenge_is : challenge ≡ answered.0
+
+  drawing_seals : (none_left : Bool) (frame : ℕ → List ℕ) (challenge : List ℕ) (s : Standing)
       (answered : List ℕ × ℕ)
       → (let t : Transition (Result ℕ SendFault) =
-      if none_left then quiet s (Err fault.Exhausted) else sealing (frame key) s in
+      if none_left then quiet s (Err fault.Exhausted) else sealing frame s in
       Says (received.Answered challenge (number_sent t.outcome)) answered
-      → Seals frame s.next t.frame × (challenge ≡ answered.0))
-  drawing_seals true frame key challenge s answered is = absurd cc
-  drawing_seals false frame key challenge s answered is =
-      (record { key = key; is = refl }, ap (λ (a : List ℕ × ℕ). a.0) (some_same (challenge, count + 1) answered is))
+      → SealsOne t.frame (frame s.next) challenge answered)
+  drawing_seals true frame challenge s answered is = absurd cc
+  drawing_seals false frame challenge s answered is = record {
+    is = refl;
+    challenge_is = ap (λ (a : List ℕ × ℕ). a.0) (some_same (challenge, count + 1) answered is);
+  }
 
-  key_seals : (key : Option (List ℕ)) (frame : List ℕ → ℕ → List ℕ) (challenge : List ℕ) (s : Standing)
-      (answered : List ℕ × ℕ)
+  key_seals : (rows : List Row) (channel : Channel) (key : Option (List ℕ)) (frame : List ℕ → ℕ → List ℕ)
+      (challenge : List ℕ) (s : Standing) (answered : List ℕ × ℕ) → key_of rows channel ≡ key
       → (let t = under_key key frame s in
       Says (received.Answered challenge (number_sent t.outcome)) answered
-      → Seals frame s.next t.frame × (challenge ≡ answered.0))
-  key_seals None frame challenge s answered is = absurd cc
-  key_seals (Some key) frame challenge s answered is =
-      drawing_seals (s.next == 2 ^ 48) frame key challenge s answered is
+      → Seals rows (Some channel) frame s.next t.frame × (challenge ≡ answered.0))
+  key_seals rows channel None frame challenge s answered key_is is = absurd cc
+  key_seals rows channel (Some key) frame challenge s answered key_is is =
+      let one = drawing_seals (s.next == 2 ^ 48) (frame key) challenge s answered is in (
+        record { channel = channel; channel_is = refl; key = key; key_is = key_is; is = one.is },
+        one.challenge_is,
+      )
 
   channel_seals : (c : ConfigState) (found : Option Channel) (frame : List ℕ → ℕ → List ℕ) (challenge : List ℕ)
       (s : Standing) (answered : List ℕ × ℕ)
       → (let t = on_channel c s found frame in
       Says (received.Answered challenge (number_sent t.outcome)) answered
-      → Seals frame s.next t.frame × (challenge ≡ answered.0))
+      → Seals c.rows found frame s.next t.frame × (challenge ≡ answered.0))
   channel_seals c None frame challenge s answered is = absurd cc
   channel_seals c (Some found) frame challenge s answered is =
-      key_seals (key_of c.rows found) frame challenge s answered is
+      key_seals c.rows found (key_of c.rows found) frame challenge s answered refl is
 
-  -- ---- an act is no answer
+  -- ---- an act is no answer, and takes none
 
   reply_none : (c : ConfigState) (s : Standing) (number : ℕ) (lane : Lane) (object : ℕ) (group : GroupAddr)
       (value : Option ObjectValue)
-      → answered_in (receive_told count (reply_transition c s number lane object group value).outcome) ≡ None
-  reply_none c s number lane object group (Some value) = refl
-  reply_none c s number lane object group None = refl
+      → IsNone (receive_told count (reply_transition c s number lane object group value).outcome)
+  reply_none c s number lane object group (Some value) = record { answers = refl; takes = refl }
+  reply_none c s number lane object group None = record { answers = refl; takes = refl }
 
   effect_none : (c : ConfigState) (s : Standing) (number : ℕ) (lane : Lane) (object : ℕ) (row : ObjectRow)
       (does : Result Effect BadObject)
-      → answered_in (receive_told count (effect_transition c s number lane object row does).outcome) ≡ None
-  effect_none c s number lane object row (Err bad) = refl
+      → IsNone (receive_told count (effect_transition c s number lane object row does).outcome)
+  effect_none c s number lane object row (Err bad) = record { answers = refl; takes = refl }
   effect_none c s number lane object row (Ok effect.Read) =
       reply_none c s number lane object row.group (slice_get s.values object)
-  effect_none c s number lane object row (Ok (effect.Write value)) = refl
-  effect_none c s number lane object row (Ok (effect.Response value)) = refl
+  effect_none c s number lane object row (Ok (effect.Write value)) = record { answers = refl; takes = refl }
+  effect_none c s number lane object row (Ok (effect.Response value)) = record { answers = refl; takes = refl }
 
   row_none : (c : ConfigState) (s : Standing) (number : ℕ) (lane : Lane) (object : ℕ) (apdu : List ℕ)
       (row : Option ObjectRow)
-      → answered_in (receive_told count (row_transition c s number lane object apdu row).outcome) ≡ None
+      → IsNone (receive_told count (row_transition c s number lane object apdu row).outcome)
   row_none c s number lane object apdu (Some row) = effect_none c s number lane object row (accepted row apdu)
-  row_none c s number lane object apdu None = refl
+  row_none c s number lane object apdu None = record { answers = refl; takes = refl }
 
-  act_none : (c : ConfigState) (s : Standing) (to : Addressee) (lane : Lane) (number : ℕ) (service : Service)
-      (apdu : List ℕ)
-      → answered_in (receive_told count (act_transition c s to lane number service apdu).outcome) ≡ None
-  act_none c s Device lane number service apdu = refl
+  pub act_none : (c : ConfigState) (s : Standing) (to : Addressee) (lane : Lane) (number : ℕ) (service : Service)
+      (apdu : List ℕ) → IsNone (receive_told count (act_transition c s to lane number service apdu).outcome)
+  act_none c s Device lane number service apdu = record { answers = refl; takes = refl }
   act_none c s (Object object) lane number service apdu =
       row_none c s number lane object apdu (slice_get c.objects object)
 
@@ -169,7 +187,7 @@ module _ (count : ℕ) where
       → (let t = verdict_transition c s (source_of (frame_at request)) to lane apdu said in
       Says t.outcome answered → Replies c s request t answered.0)
   verdict_replies c s request to lane apdu (verdict.Accepted number service) answered lane_is is =
-      elim (none-some answered (sym (act_none c s to lane number service apdu) ∙ is)) [ ]
+      elim (none-some answered (sym (act_none c s to lane number service apdu).answers ∙ is)) [ ]
   verdict_replies c s request to lane apdu (verdict.SyncAsk number challenge) answered lane_is is =
       let source = source_of (frame_at request) in
       let frame : List ℕ → ℕ → List ℕ =
@@ -181,7 +199,10 @@ module _ (count : ℕ) where
       record {
         lane = lane;
         lane_is = lane_is;
+        channel = seals.0.channel;
+        channel_is = seals.0.channel_is;
         key = seals.0.key;
+        key_is = seals.0.key_is;
         frame_is = seals.0.is
             ∙ (λ i. Some (answer_frame seals.0.key c.address source s.next (seals.1 i)
             (max (mark_at (sym same i) (place_in c (lanes.Run source))) (mark_at (sym same i) (place_in c lane)))));
@@ -200,7 +221,15 @@ module _ (count : ℕ) where
       let raises = kept_raises (place_in c lane) (kept_by c.rows mark asked t) in
       let r = verdict_replies c (raised raises s) request to lane (opened_by c.rows asked t)
       (verdict_of c.rows mark asked t) answered lane_is is in
-      record { lane = r.lane; lane_is = r.lane_is; key = r.key; frame_is = r.frame_is }
+      record {
+        lane = r.lane;
+        lane_is = r.lane_is;
+        channel = r.channel;
+        channel_is = r.channel_is;
+        key = r.key;
+        key_is = r.key_is;
+        frame_is = r.frame_is;
+      }
 
   addressed_replies : (c : ConfigState) (s : Standing) (request : List ℕ) (to : Option Addressee)
       (answered : List ℕ × ℕ)
@@ -226,7 +255,10 @@ record CallReplies (brings : Option (List ℕ)) (c : ConfigState) (s : Standing)
   brings_is : brings ≡ Some request
   lane : Lane
   lane_is : lane_in c.rows (frame_at request) ≡ Some lane
+  channel : Channel
+  channel_is : device_channel c (source_of (frame_at request)) ≡ Some channel
   key : List ℕ
+  key_is : key_of c.rows channel ≡ Some key
   frame_is : call.frame
       ≡ Some (answer_frame key c.address (source_of (frame_at request)) s.next challenge
       (mark_told c call.after (source_of (frame_at request)) lane))
@@ -242,7 +274,10 @@ deliver_replies count c s (Some request) answered is =
       brings_is = refl;
       lane = r.lane;
       lane_is = r.lane_is;
+      channel = r.channel;
+      channel_is = r.channel_is;
       key = r.key;
+      key_is = r.key_is;
       frame_is = r.frame_is;
     }
 
@@ -290,7 +325,7 @@ silent_none (outcome.Answered challenge (Some telegram)) sends = absurd cc
 silent_none (outcome.Answered challenge None) sends = refl
 silent_none said sends = refl
 
-reply_step : (e : Event) (w : WorldAt) (place : ℕ) (answered : List ℕ × ℕ) (said : StepOutcome)
+pub reply_step : (e : Event) (w : WorldAt) (place : ℕ) (answered : List ℕ × ℕ) (said : StepOutcome)
     → StepsTo e w.air (node_in w place) said (node_in (after e w) place)
     → (node_in (after e w) place).config ≡ (node_in w place).config → answered_in said ≡ Some answered
     → IsReply e w place answered.0
@@ -314,7 +349,10 @@ reply_step e w place answered said (inl g) config is =
       brings = r.brings_is;
       lane = r.lane;
       lane_is = r.lane_is;
+      channel = r.channel;
+      channel_is = r.channel_is;
       key = r.key;
+      key_is = r.key_is;
       kept = kept;
       sends = r.frame_is;
       kept_is = (λ i. max (sym run i) (sym its i));

@@ -253,9 +253,9 @@ goes_on e air n n' said reserved next floor (inr (inr (inr st))) config held fit
 
 -- ---- the steps of a run
 
-record Rises (reserved next floor : ℕ) (saids : List StepOutcome) : Type 0 where
-  drawn : DrawnFrom floor (draws reserved next saids)
-  said : SayTheNext next saids
+pub record Rises (reserved next floor : ℕ) (saids : List StepOutcome) : Type 0 where
+  pub drawn : DrawnFrom floor (draws reserved next saids)
+  pub said : SayTheNext next saids
 
 one_more : (reserved next floor : ℕ) (said : StepOutcome) (n' : NodeAt) (later : List StepOutcome)
     (on : GoesOn said n' reserved next floor)
@@ -285,7 +285,7 @@ rising_by e events w place reserved next floor false other below held fits again
     again reserved next floor
     (subst (λ n. Fits n reserved next floor) (sym (stays_at e w place other)) fits)
 
-rising : (events : List Event) (w : WorldAt) (place reserved next floor : ℕ) → place < length w.nodes
+pub rising : (events : List Event) (w : WorldAt) (place reserved next floor : ℕ) → place < length w.nodes
     → AreHeld events w → Fits (node_in w place) reserved next floor
     → Rises reserved next floor (outcomes_of place (history_of events w))
 rising [] w place reserved next floor below held fits = record { drawn = tt; said = tt }
@@ -345,7 +345,7 @@ first_at rows nodes place row installation is =
 
 -- ---- each pair of numbers
 
-all_above : (floor : ℕ) (ds : List Draw) → DrawnFrom floor ds → All (λ (d : Draw). floor ≤ d.number) ds
+pub all_above : (floor : ℕ) (ds : List Draw) → DrawnFrom floor ds → All (λ (d : Draw). floor ≤ d.number) ds
 all_above floor [] drawn = All-nil (λ (d : Draw). floor ≤ d.number)
 all_above floor (d ∷ ds) drawn =
     let first = drawn.0 in

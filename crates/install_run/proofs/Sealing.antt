@@ -39,10 +39,10 @@ use Rattle.install_run.proofs.Steps.{Goes, StepsTo, IsSteppedAt, node_turn, step
 -- ---- the number of a step
 
 -- The number that is drawn is from the floor before the step on, below the one after it, and of 48 bits.
-record HasDrawn (n : NodeAt) (floor floor' : ℕ) : Type 0 where
-  above : floor ≤ next_of n.standing
-  below : next_of n.standing < floor'
-  fits : next_of n.standing < 2 ^ 48
+pub record HasDrawn (n : NodeAt) (floor floor' : ℕ) : Type 0 where
+  pub above : floor ≤ next_of n.standing
+  pub below : next_of n.standing < floor'
+  pub fits : next_of n.standing < 2 ^ 48
 
 went : (e : Event) (air : List TelegramAt) (n n' : NodeAt) (said : StepOutcome) (reserved next floor : ℕ)
     (on : GoesOn said n' reserved next floor) → Goes e air n said n' → Fits n reserved next floor
@@ -66,7 +66,7 @@ went e air n n' said reserved next floor on g fits sends =
       fits = omega (arith, left, same, next_is);
     }
 
-has_drawn : (e : Event) (air : List TelegramAt) (n n' : NodeAt) (said : StepOutcome) (reserved next floor : ℕ)
+pub has_drawn : (e : Event) (air : List TelegramAt) (n n' : NodeAt) (said : StepOutcome) (reserved next floor : ℕ)
     (on : GoesOn said n' reserved next floor) → StepsTo e air n said n' → Fits n reserved next floor
     → has_telegram said ≡ true → HasDrawn n floor on.floor'
 has_drawn e air n n' said reserved next floor on (inl g) fits sends =
@@ -102,12 +102,12 @@ pub record FitsFrom (n : NodeAt) (floor : ℕ) : Type 0 where
   pub next : ℕ
   pub fits : Fits n reserved next floor
 
-record Passes (e : Event) (w : WorldAt) (place floor : ℕ) : Type 0 where
-  floor' : ℕ
-  fits : FitsFrom (node_in (after e w) place) floor'
-  up : floor ≤ floor'
-  config : (node_in (after e w) place).config ≡ (node_in w place).config
-  drawn : is_at place (place_of e) ≡ true → has_telegram (step_of e w).outcome ≡ true
+pub record Passes (e : Event) (w : WorldAt) (place floor : ℕ) : Type 0 where
+  pub floor' : ℕ
+  pub fits : FitsFrom (node_in (after e w) place) floor'
+  pub up : floor ≤ floor'
+  pub config : (node_in (after e w) place).config ≡ (node_in w place).config
+  pub drawn : is_at place (place_of e) ≡ true → has_telegram (step_of e w).outcome ≡ true
       → HasDrawn (node_in w place) floor floor'
 
 passes : (here : Bool) (e : Event) (w : WorldAt) (place floor : ℕ) → is_at place (place_of e) ≡ here
@@ -141,7 +141,7 @@ passes false e w place floor other below held f =
       drawn = λ is sends. elim (false≢true (sym other ∙ is)) [ ];
     }
 
-passed : (e : Event) (w : WorldAt) (place floor : ℕ) → place < length w.nodes → HoldsAfter e w
+pub passed : (e : Event) (w : WorldAt) (place floor : ℕ) → place < length w.nodes → HoldsAfter e w
     → FitsFrom (node_in w place) floor → Passes e w place floor
 passed e w place floor below held f = passes (is_at place (place_of e)) e w place floor refl below held f
 

@@ -75,11 +75,11 @@ above_answers reserved next (said ∷ later) rise =
 -- ---- above what it was told as kept
 
 -- a node that runs, and whose next number is this one and above that
-record RunsAbove (kept next : ℕ) (n : NodeAt) : Type 0 where
-  s : Standing
-  runs : n.standing ≡ Some s
-  next_is : s.next ≡ next
-  above : kept < next
+pub record RunsAbove (kept next : ℕ) (n : NodeAt) : Type 0 where
+  pub s : Standing
+  pub runs : n.standing ≡ Some s
+  pub next_is : s.next ≡ next
+  pub above : kept < next
 
 draw_above : (kept reserved next : ℕ) (one : Bool) (rest : List Draw) → kept < next → AreAbove kept rest
     → AreAbove kept
@@ -89,7 +89,7 @@ draw_above kept reserved next true rest above all =
     (record { number = next; reserved = reservation_for reserved next }) rest above all
 draw_above kept reserved next false rest above all = all
 
-abbrev DrawsAbove : ℕ → ℕ → ℕ → List StepOutcome → Type 0
+abbrev pub DrawsAbove : ℕ → ℕ → ℕ → List StepOutcome → Type 0
 DrawsAbove kept reserved next saids = AreAbove kept (draws reserved next saids)
 
 stop_draws : (kept reserved next : ℕ) (said : StepOutcome) (later : List StepOutcome) → is_stop said ≡ true
@@ -147,7 +147,7 @@ above_by e w place kept reserved next later true here below stand r again =
 above_by e w place kept reserved next later false other below stand r again =
     again reserved next (subst (RunsAbove kept next) (sym (stays_at e w place other)) r)
 
-above : (events : List Event) (w : WorldAt) (place kept reserved next : ℕ) → place < length w.nodes
+pub above : (events : List Event) (w : WorldAt) (place kept reserved next : ℕ) → place < length w.nodes
     → AreHeld events w → AllStand (node_in w place) → RunsAbove kept next (node_in w place)
     → DrawsAbove kept reserved next (until_stop (outcomes_of place (history_of events w)))
 above [] w place kept reserved next below held stand r = All-nil (λ (draw : Draw). kept < draw.number)
@@ -171,7 +171,7 @@ silent_told P (outcome.Synced number kept then_next) stays =
     let zero = stays 0 in let one = stays 1 in absurd (omega (arith, zero, one))
 silent_told P said stays = tt
 
-taken_step : (e : Event) (air : List TelegramAt) (n n' : NodeAt) (said : StepOutcome) (reserved next floor : ℕ)
+pub taken_step : (e : Event) (air : List TelegramAt) (n n' : NodeAt) (said : StepOutcome) (reserved next floor : ℕ)
     → StepsTo e air n said n' → AllStand n → Fits n reserved next floor
     → IfSome (kept_told said) (λ kept. RunsAbove kept (next_after next said) n')
 taken_step e air n n' said reserved next floor (inl g) stand fits =

@@ -139,7 +139,7 @@ silent_none (outcome.Synced number kept then_next) stays =
     let zero = stays 0 in let one = stays 1 in absurd (omega (arith, zero, one))
 silent_none said stays = refl
 
-taken_step : (e : Event) (w : WorldAt) (place number : ℕ) (said : StepOutcome)
+pub taken_step : (e : Event) (w : WorldAt) (place number : ℕ) (said : StepOutcome)
     → StepsTo e w.air (node_in w place) said (node_in (after e w) place)
     → (node_in (after e w) place).config ≡ (node_in w place).config → AllStand (node_in w place)
     → taken_in said ≡ Some number → IsTaken e w place number

@@ -1,8 +1,9 @@
 -- What holds of every history. This is statement; the words are those of Histories, Marks, Journals, Values, Passing,
--- Verified and Deliverable, and of Legal, Fitting, Starting, Since, Following, Sealed and Synchronising.
+-- Verified and Deliverable, and of Legal, Fitting, Starting, Since, Following, Sealed, Synchronising and Exchanged.
 use Rattle.std.specs.Prelude.{◌≡◌, ℕ, take, slice_get, Some}
 use Rattle.script_text.specs.declared.node_row.NodeRow.{NodeRow}
 use Rattle.install_run.specs.Deliverable.{ActsOnDeliverable}
+use Rattle.install_run.specs.Exchanged.{EndsTellTheSame}
 use Rattle.install_run.specs.First.{first_world}
 use Rattle.install_run.specs.Following.{CountsOn, AsksOnce}
 use Rattle.install_run.specs.Histories.{DrawsOnce}
@@ -105,11 +106,20 @@ SealsApart w =
     HaveBlocksOfTheirOwn w.nodes w.history (all_sealed (events_of w.history) (first_world w.rows w.nodes))
 
 -- A node that takes an answer goes on above the kept number that it tells, and one that sends an answer above its own
--- number; a reply tells the requester's marks. That both ends of an answer have the same numbers is not said here.
+-- number; a reply tells the requester's marks.
 abbrev pub SynchronisesAll : WorldState → Type 0
 SynchronisesAll w =
     (place : ℕ) (row : NodeRow) → slice_get w.nodes place ≡ Some row
     → Synchronises place row (events_of w.history) (first_world w.rows w.nodes) w.history
+
+-- An answer that is taken tells at the requester what the responder sealed into it.
+abbrev pub EndsAgree : WorldState → Type 0
+EndsAgree w = EndsTellTheSame (events_of w.history) (first_world w.rows w.nodes)
+
+-- synchronisations, at each node and between both
+pub record Synchronised (w : WorldState) : Type 0 where
+  pub each : SynchronisesAll w
+  pub ends : EndsAgree w
 
 -- It goes by the rules: each step is allowed after those before it, by their outcomes alone; what there is follows from
 -- its steps; and no two telegrams of its nodes have one counter block.
@@ -121,4 +131,4 @@ pub record GoesByRules (w : WorldState) : Type 0 where
   pub counts : CountsFollow w
   pub asks : ChallengesFollow w
   pub seals : SealsApart w
-  pub synchronises : SynchronisesAll w
+  pub synchronises : Synchronised w

@@ -16,6 +16,7 @@ pub mod Fitting
 pub mod Starting
 pub mod Following
 pub mod Synchronising
+pub mod Exchanged
 pub mod Laws
 pub mod Air
 pub mod Counts

@@ -1,15 +1,17 @@
 -- What synchronisations make of the numbers of the two nodes, the requester and the responder. This is statement.
--- Each sentence is of one node and of its own steps. Left out is what ties the two nodes together: that the kept number
--- and the number that a taken answer tells at the requester are those that the responder sealed into its reply.
+-- Each sentence is of one node and of its own steps; Exchanged ties the two nodes together.
 use Rattle.std.specs.Prelude.{◌≡◌, ℕ, ◌-◌, ◌<◌, max, List, [], ◌∷◌, Bool, true, false, Option, Some, None, IfSome, if◌then◌else◌}
 use Rattle.std.specs.List.{All}
 use Rattle.cemi_frames.specs.Reading.{frame_at}
+use Rattle.key_tables.specs.declared.types.Channel.{Channel}
 use Rattle.key_tables.specs.declared.types.Lane.{Lane}
 use Rattle.key_tables.specs.declared.types.Lane.TheVariants as lanes
+use Rattle.key_tables.specs.Rows.{key_of}
 use Rattle.judge_rules.specs.Checks.{lane_in, kept_by, check_stale}
 use Rattle.judge_rules.specs.Parts.{source_of}
 use Rattle.sync_service.specs.Frames.{answer_frame}
 use Rattle.sync_service.specs.Open.{asked_of}
+use Rattle.node_core.specs.Sending.{device_channel}
 use Rattle.node_core.specs.Standing.{Standing}
 use Rattle.script_text.specs.declared.event.Event.{Event}
 use Rattle.script_text.specs.declared.event.Event.TheVariants as event
@@ -83,9 +85,10 @@ abbrev pub brought : Event → List TelegramAt → Option (List ℕ)
 brought (event.Deliver telegram node) air = heard (telegram_in air telegram)
 brought e air = None
 
--- A reply: the request and its lane, and the number that the reply tells as kept. That is the greater of the marks of
--- the requester, for groups and on the lane of the request, when the reply was drawn; and so a number above it passes
--- on both lanes while the mark there does not rise.
+-- A reply: the request and its lane, and the number that the reply tells as kept. The reply is sealed under the key of
+-- the channel between the two devices. The kept number is the greater of the marks of the requester, for groups and on
+-- the lane of the request, when the reply was drawn; and so a number above it passes on both lanes while the mark there
+-- does not rise.
 pub record IsReply (e : Event) (w : WorldAt) (place : ℕ) (challenge : List ℕ) : Type 0 where
   pub before : Standing
   pub runs : (node_in w place).standing ≡ Some before
@@ -93,7 +96,10 @@ pub record IsReply (e : Event) (w : WorldAt) (place : ℕ) (challenge : List ℕ
   pub brings : brought e w.air ≡ Some request
   pub lane : Lane
   pub lane_is : lane_in (node_in w place).config.rows (frame_at request) ≡ Some lane
+  pub channel : Channel
+  pub channel_is : device_channel (node_in w place).config (source_of (frame_at request)) ≡ Some channel
   pub key : List ℕ
+  pub key_is : key_of (node_in w place).config.rows channel ≡ Some key
   pub kept : ℕ
   pub sends : (call_of e w.air (node_in w place).config before).frame
       ≡ Some (answer_frame key (node_in w place).config.address (source_of (frame_at request)) before.next challenge
