@@ -43,7 +43,8 @@ refusal_in (Err (Store refused)) = Some refused.fault
 refusal_in _ = None
 
 -- The memory comes back: as it was where its size is another, else as the store hands it back.
-abbrev pub IsBack : {M : Type 0} → NotStarted M → M → (M → State) → (M → ℕ → List ℕ → Type 0) → Type 0
+abbrev pub IsBack : {M : Type 0} → NotStarted M → M → (M → State) → (M → ℕ → List ℕ → Type 0)
+    → Type 0
 IsBack (Size back) memory state images = back ≡ memory
 IsBack (Store refused) memory state images =
     IsHandedBack refused.fault (refused.memory ≡ memory) (state memory) (state refused.memory)
