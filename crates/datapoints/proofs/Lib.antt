@@ -1,0 +1,6 @@
+pub mod Floats
+pub mod CharacterLemmas
+pub mod TextLemmas
+pub mod FloatLemmas
+pub mod FixedTexts
+pub mod Written

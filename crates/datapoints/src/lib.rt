@@ -1,0 +1,23 @@
+//! Values of group objects as text: the datapoint types of the KNX specification (chapter 3/7/2) that this profile has,
+//! and the texts in which the program prints and reads their values.
+#![tactic(auto)]
+
+mod calendar;
+mod characters;
+mod clock;
+mod decoding;
+mod dpt;
+mod encoding;
+mod number_texts;
+mod numbers;
+mod switch;
+#[cfg(test)]
+mod tests;
+mod value_octets;
+mod value_text;
+
+pub use decoding::{BadValue, decode};
+pub use dpt::Dpt;
+pub use encoding::encode;
+use value_octets::ValueOctets;
+pub use value_text::ValueText;
