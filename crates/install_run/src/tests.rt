@@ -1,3 +1,6 @@
+mod busy;
+mod stops;
+
 use crate::{World, acted_on_is_verified, deliverable_is_acted_on};
 use key_tables::Lane;
 use knx_base::{IndAddr, MemSink};
