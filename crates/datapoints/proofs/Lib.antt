@@ -4,3 +4,4 @@ pub mod TextLemmas
 pub mod FloatLemmas
 pub mod FixedTexts
 pub mod Written
+pub mod TypeLines

@@ -2,3 +2,4 @@ pub mod Names
 pub mod Values
 pub mod Parsing
 pub mod Apdus
+pub mod Types

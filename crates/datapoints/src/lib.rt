@@ -13,11 +13,13 @@ mod numbers;
 mod switch;
 #[cfg(test)]
 mod tests;
+mod types;
 mod value_octets;
 mod value_text;
 
 pub use decoding::{BadValue, decode};
 pub use dpt::Dpt;
 pub use encoding::encode;
+pub use types::{Types, TypesFault, read_types};
 use value_octets::ValueOctets;
 pub use value_text::ValueText;
