@@ -26,7 +26,7 @@ zeros_are_zero zero = refl
 zeros_are_zero (suc k) = zeros_are_zero k
 
 -- where the octets are characters and then zeros, their end is the place of the first zero, or the end
-end_is : (octets characters : List ℕ) (k end : ℕ) → octets ≡ characters ++ replicate k 0
+pub end_is : (octets characters : List ℕ) (k end : ℕ) → octets ≡ characters ++ replicate k 0
     → list_all is_printable characters ≡ true → end ≤ length octets
     → ((j : ℕ) → j < end → get_or octets j 0 ≢ 0) → (end < length octets → get_or octets end 0 ≡ 0)
     → end ≡ length characters

@@ -5,3 +5,4 @@ pub mod FloatLemmas
 pub mod FixedTexts
 pub mod Written
 pub mod TypeLines
+pub mod OneText

@@ -25,6 +25,7 @@ pub fn decode(dpt: Dpt, apdu: &[u8], out: &mut ValueText) -> Result<(), BadValue
     ensures text { OnOk result (Carries dpt apdu.now out.new) }
     ensures fault { IfErr result (IsBadValue dpt apdu.now) }
     ensures empty { OnErr result (out.new ≡ []) }
+    ensures one_text { HasOneText dpt (value_in dpt apdu.now) }
 {
     out.clear();
     let found = apdu.len() as u8;

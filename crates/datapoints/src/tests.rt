@@ -1,4 +1,5 @@
-use crate::{BadValue, Dpt, ValueText, decode, encode};
+use crate::{BadValue, Dpt, TypesFault, ValueText, decode, encode, read_types};
+use knx_base::{Cause, GroupAddr};
 use std::process::Abort;
 use std::test::Fail;
 
@@ -122,5 +123,32 @@ fn comes_back(rt: &impl Abort, dpt: Dpt, apdu: &[u8; 4], one_form: bool) -> Resu
     let mut again = ValueText::new();
     assert_eq!(rt; decode(dpt, &out[..4], &mut again), Ok(()));
     assert_eq!(rt; again.bytes(), text.bytes());
+    Ok(())
+}
+
+#[test]
+fn types_are_read_and_asked(rt: HostRuntime) -> Result<(), Fail> {
+    let text = b"# types\ntype 1/2/3 9.001\n\ntype 2564 16.000";
+    let types = read_types(rt.alloc(), text).ok().ok_or("refused")?;
+    assert_eq!(rt; types.of(GroupAddr(0x0a03)), Some(Dpt::Hundredths));
+    assert_eq!(rt; types.of(GroupAddr(0x0a04)), Some(Dpt::Text14));
+    assert_eq!(rt; types.of(GroupAddr(0x0a05)), None);
+    for (text, fault) in [
+        (
+            b"type 0/0/0 1.001".as_slice(),
+            TypesFault::Line(1, Cause::Address),
+        ),
+        (
+            b"type 1/2/3 2.001".as_slice(),
+            TypesFault::Line(1, Cause::Value),
+        ),
+        (b"type 1/2/3".as_slice(), TypesFault::Line(1, Cause::Words)),
+        (
+            b"\ntype 1 1.001\ntype 0/1 5.001".as_slice(),
+            TypesFault::Twice(3),
+        ),
+    ] {
+        assert_eq!(rt; read_types(rt.alloc(), text).err(), Some(fault));
+    }
     Ok(())
 }
