@@ -43,7 +43,7 @@ answering x = event.Deliver x.request x.responder
 abbrev pub taking : Exchange → Event
 taking x = event.Deliver x.telegram x.requester
 
--- the events from the one step on, and those after it
+-- the events after the one step, and from it on
 abbrev pub events_after : Exchange → List Event
 events_after x = x.between ++ taking x ∷ x.later
 
