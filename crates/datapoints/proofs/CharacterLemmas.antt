@@ -43,7 +43,8 @@ end_is octets characters k end are printable within before at =
         | inl later ↦
             let zero_there : get_or octets (length characters) 0 ≡ 0 =
             ap (λ list. get_or list (length characters) 0) are
-            ∙ get_or-append_right characters (replicate k 0) (length characters) (length characters) 0 refl (omega arith)
+            ∙ get_or-append_right characters (replicate k 0) (length characters) (length characters) 0 refl
+            (omega arith)
             ∙ ap (λ n. get_or (replicate k 0) n 0) (omega arith)
             ∙ get_or-replicate k 0 0 0 (omega arith)
             in

@@ -26,7 +26,8 @@ pub no_float : (text digits : List ℕ) (negative : Bool) → IsOnlySign text ne
     → ((n : ℕ) → n < 10 ^ 8 → digits ≢ hundredths n) → (n : ℕ) → text ≢ float_text n
 no_float text digits negative only none n = λ is.
     let bound = magnitude_bound n in
-    let parts = only (is_negative n) (hundredths (magnitude_of n)) (hundredths_plain (magnitude_of n) (omega arith)) is in
+    let parts = only (is_negative n) (hundredths (magnitude_of n)) (hundredths_plain (magnitude_of n) (omega arith)) is
+    in
     none (magnitude_of n) bound (sym parts.1)
 
 form_of : (text digits : List ℕ) (negative : Bool) (magnitude n : ℕ) → IsOnlySign text negative digits

@@ -30,7 +30,8 @@ one_number : (w : Width) (text_of : ℕ → List ℕ) (octets text other : List 
     → ((a b : ℕ) → a < 256 ^ byte_len w → b < 256 ^ byte_len w → to_be_bytes w a ≡ to_be_bytes w b → a ≡ b)
     → IsNumber w text_of octets text → IsNumber w text_of octets other → text ≡ other
 one_number w text_of octets text other injective p q =
-    p.spelled ∙ ap text_of (injective p.number q.number p.bound q.bound (sym p.octets_are ∙ q.octets_are)) ∙ sym q.spelled
+    p.spelled ∙ ap text_of (injective p.number q.number p.bound q.bound (sym p.octets_are ∙ q.octets_are))
+    ∙ sym q.spelled
 
 one_float : (octets text other : List ℕ) → IsFloat octets text → IsFloat octets other → text ≡ other
 one_float octets text other p q =
@@ -62,7 +63,8 @@ bit_text b = cond b (codes "on") (codes "off")
 
 one_zero : bit_octets true ≡ bit_octets false → ⊥
 one_zero same =
-    let heads : get_or (bit_octets true) 0 0 ≡ get_or (bit_octets false) 0 0 = ap (λ l. get_or l 0 0) same in omega arith
+    let heads : get_or (bit_octets true) 0 0 ≡ get_or (bit_octets false) 0 0 = ap (λ l. get_or l 0 0) same in
+    omega arith
 
 one_bit : (b c : Bool) → bit_octets b ≡ bit_octets c → bit_text b ≡ bit_text c
 one_bit true true same = refl
@@ -83,7 +85,8 @@ one_row octets text other p q =
     let before : (j : ℕ) → j < length q.characters → get_or octets j 0 ≢ 0 =
     λ j within none.
     let here : get_or q.characters j 0 ≡ 0 =
-    sym (get_or_append_left q.characters (replicate k 0) 0 j within) ∙ ap (λ l. get_or l j 0) (sym q.octets_are) ∙ none in
+    sym (get_or_append_left q.characters (replicate k 0) 0 j within) ∙ ap (λ l. get_or l j 0) (sym q.octets_are)
+    ∙ none in
     let no = list_all_at is_printable q.characters j 0 within (ap is_printable here) in let yes = q.printable in cc
     in
     let at : length q.characters < length octets → get_or octets (length q.characters) 0 ≡ 0 =

@@ -19,7 +19,8 @@ own = record { to = λ ds d. d; from = λ ds d. d; same = λ ds d. refl }
 
 decimal_lacks : (octet n : ℕ) → octet < 48 → n < 2 ^ 64 → (i : ℕ) → i < length (decimal n)
     → get_or (decimal n) i 0 ≢ octet
-decimal_lacks octet n low small = not_in_digits own (decimal n) octet (digits_decimal own n small) (λ digit. omega arith)
+decimal_lacks octet n low small =
+    not_in_digits own (decimal n) octet (digits_decimal own n small) (λ digit. omega arith)
 
 pub decimal_plain : (n : ℕ) → n < 2 ^ 64 → get_or (decimal n) 0 0 ≢ 45
 decimal_plain n small = decimal_lacks 45 n (omega arith) small 0 (decimal_nonempty n small)
@@ -44,7 +45,8 @@ cuts_point text (Some parts) cut = (
       (decimal_lacks 46 (n / 100) (omega arith) (omega arith)),
 )
 
-pub hundredths_of : (whole part : ℕ) → part < 100 → hundredths (whole * 100 + part) ≡ decimal whole ++ 46 ∷ two_digits part
+pub hundredths_of : (whole part : ℕ) → part < 100
+    → hundredths (whole * 100 + part) ≡ decimal whole ++ 46 ∷ two_digits part
 hundredths_of whole part small =
     let above : (whole * 100 + part) / 100 ≡ whole = omega arith in
     let below : (whole * 100 + part) % 100 ≡ part = omega arith in

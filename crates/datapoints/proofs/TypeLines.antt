@@ -41,7 +41,8 @@ pub begun : (all : List (List ℕ)) → HasRead all [] all 0 []
 begun all = record { whole = refl; given_is = refl; rows_are = refl; right = refl }
 
 -- the fault of the next line, in the words of the call that takes it
-next_fault : (done : List (List ℕ)) (line : List ℕ) (given number : ℕ) (rows : List (GroupAddr × Dpt)) → given ≡ length done
+next_fault : (done : List (List ℕ)) (line : List ℕ) (given number : ℕ) (rows : List (GroupAddr × Dpt))
+    → given ≡ length done
     → rows ≡ rows_of done
     → number ≡ given + 1 → refusal number rows (line_says line) ≡ line_fault done line
 unfolding line_fault
@@ -59,7 +60,8 @@ one_more_line done line =
     filter_map-append (λ l. row_said (line_says l)) done (line ∷ [])
     ∙ ap (λ rows. rows_of done ++ rows) (sym (one_row (row_said (line_says line))))
 
-pub line_taken : (all done left next : List (List ℕ)) (line : List ℕ) (given number : ℕ) (rows now : List (GroupAddr × Dpt))
+pub line_taken : (all done left next : List (List ℕ)) (line : List ℕ) (given number : ℕ)
+    (rows now : List (GroupAddr × Dpt))
     → HasRead all done next given rows → next ≡ line ∷ left → number ≡ given + 1
     → now ≡ rows ++ option_to_list (row_said (line_says line)) → refusal number rows (line_says line) ≡ None
     → HasRead all (done ++ line ∷ []) left number now
@@ -88,7 +90,8 @@ is_first (Line n why) found later h = ap (λ o. option_or o later) h
 is_first (Twice n) found later h = ap (λ o. option_or o later) h
 is_first (TooMany n) found later h = ap (λ o. option_or o later) h
 
-pub line_refused : (text : List ℕ) (done left next : List (List ℕ)) (line : List ℕ) (given number : ℕ) (rows : List (GroupAddr × Dpt))
+pub line_refused : (text : List ℕ) (done left next : List (List ℕ)) (line : List ℕ) (given number : ℕ)
+    (rows : List (GroupAddr × Dpt))
     (fault : TypesFault)
     → HasRead (lines text) done next given rows → next ≡ line ∷ left → number ≡ given + 1
     → IsRefusal fault (refusal number rows (line_says line)) → IsTextFault fault (types_of text)

@@ -6,7 +6,8 @@ use Rattle.datapoints.specs.declared.dpt.Dpt.{Dpt}
 use Rattle.datapoints.specs.declared.dpt.Dpt.TheVariants.{Switch}
 use Rattle.datapoints.specs.Apdus.{apdu_with}
 
-octets_with : (dpt : Dpt) (bits : ℕ) (octets : List ℕ) → (dpt ≡ Switch → ⊥) → apdu_of bits octets ≡ apdu_with dpt bits octets
+octets_with : (dpt : Dpt) (bits : ℕ) (octets : List ℕ) → (dpt ≡ Switch → ⊥)
+    → apdu_of bits octets ≡ apdu_with dpt bits octets
 octets_with Switch bits octets other = absurd (other refl)
 octets_with _ bits octets other = refl
 

@@ -33,7 +33,8 @@ pub record IsForm (number : ℕ) (negative : Bool) (magnitude : ℕ) : Type 0 wh
 -- the form with the least exponent, or there is none
 abbrev pub IsLeastOf : Bool → ℕ → Option ℕ → Type 0
 IsLeastOf negative magnitude found = MatchOption found ((n : ℕ) → ¬ IsForm n negative magnitude)
-    (λ n. IsForm n negative magnitude × ((other : ℕ) → IsForm other negative magnitude → exponent_of n ≤ exponent_of other))
+    (λ n. IsForm n negative magnitude
+    × ((other : ℕ) → IsForm other negative magnitude → exponent_of n ≤ exponent_of other))
 
 -- the form with this exponent, or there is none
 abbrev pub IsFormAt : ℕ → Bool → ℕ → Option ℕ → Type 0

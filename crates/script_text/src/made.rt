@@ -121,11 +121,7 @@ fn first_object(node: u16) -> ObjectLine
     requires four { node < 4 }
     ensures { result ≡ first_object node }
 {
-    made_object_line(
-        IndAddr(FIRST_ADDRESS + node),
-        BITS,
-        Value::bits(0).unwrap(),
-    )
+    made_object_line(IndAddr(FIRST_ADDRESS + node), BITS, Value::bits(0).unwrap())
 }
 
 fn second_object(node: u16) -> ObjectLine

@@ -268,7 +268,11 @@ fn a_cut_keyring_is_bad_where_it_was_cut(rt: HostRuntime) -> Result<(), Fail> {
     for count in 0..HOUSE.len() - 1 {
         let front = HOUSE.get(..count).ok_or("the front of the keyring")?;
         let mut report = String::new(alloc);
-        writeln!(report, "refused keyring at {} bad", divided_at(front.as_bytes()))?;
+        writeln!(
+            report,
+            "refused keyring at {} bad",
+            divided_at(front.as_bytes())
+        )?;
         let (out, status) = keyrings::audited(alloc, front, "test-password", "", FRAMES, NEVER)?;
         assert_eq!(rt; out.bytes(), report.as_bytes());
         assert_eq!(rt; status, Status::Refused);

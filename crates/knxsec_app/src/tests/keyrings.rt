@@ -231,7 +231,10 @@ fn a_text_that_is_too_long_to_be_signed_is_refused(rt: HostRuntime) -> Result<()
     assert!(rt; out.bytes().starts_with(b"refused keyring signature "));
     let longer = HOUSE.replace(alloc, "House", &"H".repeat(alloc, 256)?)?;
     let (out, status) = audited(alloc, &longer, "test-password", "", FRAMES, NEVER)?;
-    assert_eq!(rt; out.bytes(), b"refused keyring at 39 long-text\n".as_slice());
+    assert_eq!(rt;
+        out.bytes(),
+        b"refused keyring at 39 long-text\n".as_slice()
+    );
     assert_eq!(rt; status, Status::Refused);
     Ok(())
 }
