@@ -17,6 +17,17 @@ const PLAIN: &str = "knx-script 1\n\
      node lamp 1.1.9 1\n\
      object lamp 1/2/3 w bits 00\n";
 
+// The same, as it stands in the folder `examples`.
+const EXAMPLE: &str =
+    "# A push button writes to a lamp. The lamp loses power inside the first write of its memory.\n\
+     knx-script 1\n\
+     group 1/2/3 000102030405060708090a0b0c0d0e0f conf\n\
+     role 1/2/3 1.1.7 command\n\
+     node push 1.1.7 1\n\
+     object push 1/2/3 t bits 01\n\
+     node lamp 1.1.9 1\n\
+     object lamp 1/2/3 w bits 00\n";
+
 // The button has one number left.
 const LAST: &str = "knx-script 1\n\
      group 1/2/3 000102030405060708090a0b0c0d0e0f conf\n\
@@ -159,13 +170,14 @@ fn each_event_is_told_and_how_it_ends(rt: HostRuntime) -> Result<(), Fail> {
     let alloc = rt.alloc();
     let rows = [
         ONE_WRITE,
-        // The number is torn under a closed gate, and the mark is as before.
+        // The number is torn under a closed gate, and the mark is as before: the script of the folder `examples`.
         Row {
-            head: PLAIN,
+            head: EXAMPLE,
             events: "send push 0 write\n\
                      cut lamp 1 a5\n\
                      deliver 1 lamp\n\
                      on lamp\n\
+                     deliver 1 lamp\n\
                      deliver 1 lamp\n",
             report: &[
                 (
@@ -173,12 +185,13 @@ fn each_event_is_told_and_how_it_ends(rt: HostRuntime) -> Result<(), Fail> {
                      2 armed\n\
                      3 cut\n\
                      4 on next 1 run:1.1.7=0\n\
-                     5 acted number 1 lane run:1.1.7 GroupValue_Write object 0 value 01\n",
+                     5 acted number 1 lane run:1.1.7 GroupValue_Write object 0 value 01\n\
+                     6 stale kept 1 got 1\n",
                     0,
                 ),
                 PUSH,
                 LAMP_LIT,
-                ("events 5 telegrams 1\n", 0),
+                ("events 6 telegrams 1\n", 0),
             ],
         },
         // The gate is torn open: the mark rose, and nothing was done.
