@@ -5,7 +5,7 @@ use Rattle.std.specs.Fmt.{sign_text}
 use Rattle.std.proofs.Math.Pow.{pow_mono}
 use Rattle.std.proofs.lemmas.Nat.{mul-le}
 use Rattle.datapoints.specs.Values.{hundredths, is_negative, exponent_of, magnitude_of, float_text}
-use Rattle.datapoints.specs.Parsing.{NamesNumber, IsOnly, IsOnlySign, IsForm, IsLeastOf}
+use Rattle.datapoints.specs.Parsing.{IsOnly, IsOnlySign, IsForm, IsLeastOf}
 use Rattle.datapoints.proofs.TextLemmas.{hundredths_plain}
 
 steps_bound : (b : Bool) (n : ℕ) → cond b (2048 - n % 2048) (n % 2048) ≤ 2048
@@ -26,8 +26,8 @@ pub no_float : (text digits : List ℕ) (negative : Bool) → IsOnlySign text ne
     → ((n : ℕ) → n < 10 ^ 8 → digits ≢ hundredths n) → (n : ℕ) → text ≢ float_text n
 no_float text digits negative only none n = λ is.
     let bound = magnitude_bound n in
-    let parts = only (is_negative n) (hundredths (magnitude_of n)) (hundredths_plain (magnitude_of n) (omega arith)) is
-    in
+    let parts = only (is_negative n) (hundredths (magnitude_of n)) (hundredths_plain (magnitude_of n)
+    (omega arith)) is in
     none (magnitude_of n) bound (sym parts.1)
 
 form_of : (text digits : List ℕ) (negative : Bool) (magnitude n : ℕ) → IsOnlySign text negative digits

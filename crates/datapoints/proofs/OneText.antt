@@ -1,8 +1,7 @@
 -- Octets are a value with at most one text.
-use Rattle.std.proofs.Common.{◌≡◌, ◌≢◌, ℕ, ◌+◌, ◌-◌, ◌*◌, ◌/◌, ◌%◌, ◌^◌, ◌<◌, ◌≤◌, Bool, true, false, cond, List, [], ◌∷◌, ◌++◌, length, take, get_or, replicate, refl, sym, ap, ◌∙◌, arith, length-append}
+use Rattle.std.proofs.Common.{◌≡◌, ◌≢◌, ℕ, ◌+◌, ◌-◌, ◌*◌, ◌/◌, ◌%◌, ◌^◌, ◌<◌, Bool, true, false, cond, List, [], ◌∷◌, length, take, get_or, replicate, refl, sym, ap, ◌∙◌, arith, length-append}
 use Rattle.std.specs.Prelude.{codes}
 use Rattle.std.specs.Int.{Width, byte_len, to_be_bytes, w8, w16, w32}
-use Rattle.std.specs.List.{list_all}
 use Rattle.std.proofs.lemmas.List.{length-replicate, get_or-replicate, get_or-append_right, get_or_append_left}
 use Rattle.std.proofs.lemmas.List.Folds.{list_all_at}
 use Rattle.std.proofs.Math.Seq.{take-append_seam}
@@ -63,7 +62,9 @@ bit_text b = cond b (codes "on") (codes "off")
 
 one_zero : bit_octets true ≡ bit_octets false → ⊥
 one_zero same =
-    let heads : get_or (bit_octets true) 0 0 ≡ get_or (bit_octets false) 0 0 = ap (λ l. get_or l 0 0) same in
+    let heads : get_or (bit_octets true) 0 0 ≡ get_or (bit_octets false) 0 0 =
+    ap (λ l. get_or l 0 0) same
+    in
     omega arith
 
 one_bit : (b c : Bool) → bit_octets b ≡ bit_octets c → bit_text b ≡ bit_text c
@@ -85,8 +86,8 @@ one_row octets text other p q =
     let before : (j : ℕ) → j < length q.characters → get_or octets j 0 ≢ 0 =
     λ j within none.
     let here : get_or q.characters j 0 ≡ 0 =
-    sym (get_or_append_left q.characters (replicate k 0) 0 j within) ∙ ap (λ l. get_or l j 0) (sym q.octets_are)
-    ∙ none in
+    sym (get_or_append_left q.characters (replicate k 0) 0 j within)
+    ∙ ap (λ l. get_or l j 0) (sym q.octets_are) ∙ none in
     let no = list_all_at is_printable q.characters j 0 within (ap is_printable here) in let yes = q.printable in cc
     in
     let at : length q.characters < length octets → get_or octets (length q.characters) 0 ≡ 0 =

@@ -1,6 +1,6 @@
 -- The texts of numbers: their signs, points and digits.
 use Rattle.std.proofs.Common.{◌≡◌, ◌≢◌, ℕ, ◌+◌, ◌-◌, ◌*◌, ◌/◌, ◌%◌, ◌^◌, ◌<◌, ◌≤◌, Bool, true, false, cond, List, [], ◌∷◌, ◌++◌, length, get_or, Option, Some, None, refl, sym, ap, ◌∙◌, arith, inl, inr}
-use Rattle.std.specs.Prelude.{MatchOption, option_map, nat_le, nat_lt, IfSome, IfNone}
+use Rattle.std.specs.Prelude.{option_map, nat_le, nat_lt, IfSome, IfNone}
 use Rattle.std.specs.Borrow.{Bor}
 use Rattle.std.specs.Fmt.{decimal, sign_text}
 use Rattle.std.specs.Str.Parse.{AllDigits, digits_value}

@@ -91,8 +91,7 @@ is_first (Twice n) found later h = ap (λ o. option_or o later) h
 is_first (TooMany n) found later h = ap (λ o. option_or o later) h
 
 pub line_refused : (text : List ℕ) (done left next : List (List ℕ)) (line : List ℕ) (given number : ℕ)
-    (rows : List (GroupAddr × Dpt))
-    (fault : TypesFault)
+    (rows : List (GroupAddr × Dpt)) (fault : TypesFault)
     → HasRead (lines text) done next given rows → next ≡ line ∷ left → number ≡ given + 1
     → IsRefusal fault (refusal number rows (line_says line)) → IsTextFault fault (types_of text)
 unfolding types_of

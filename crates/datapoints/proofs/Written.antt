@@ -1,5 +1,5 @@
 -- What stands in the buffer once an APDU was written to its front.
-use Rattle.std.proofs.Common.{◌≡◌, ℕ, ◌+◌, List, ◌∷◌, ◌++◌, length, take, drop, refl, ap, ◌∙◌, arith}
+use Rattle.std.proofs.Common.{◌≡◌, ℕ, ◌+◌, List, ◌++◌, length, take, drop, refl, ap, ◌∙◌, arith}
 use Rattle.std.proofs.Math.Seq.{take-append_seam, drop-append_seam}
 use Rattle.plain_apdu.specs.Apdu.{apdu_of}
 use Rattle.datapoints.specs.declared.dpt.Dpt.{Dpt}

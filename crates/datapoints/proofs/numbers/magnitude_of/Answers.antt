@@ -1,4 +1,4 @@
-use Rattle.std.proofs.Common.{◌≤◌, ◌/◌, ◌%◌, ℕ, arith}
+use Rattle.std.proofs.Common.{◌≤◌, ◌/◌, ◌%◌, arith}
 use Rattle.datapoints.proofs.Floats.{shifted_bound}
 use Rattle.datapoints.proofs.numbers.magnitude_of.Goals as goal
 use Rattle.datapoints.proofs.numbers.magnitude_of.Goals.{then-is_negative, else-is_negative}
