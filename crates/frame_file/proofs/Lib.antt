@@ -1,2 +1,14 @@
 mod Kept
 mod WordLengths
+mod LineLemmas
+mod MarginLemmas
+mod LeadLemmas
+mod FrontLemmas
+mod ListedLemmas
+mod EndLemmas
+mod LogLemmas
+mod SpacedLemmas
+mod RestLemmas
+mod BeginLemmas
+mod LoggedLemmas
+mod CountLemmas

@@ -1,6 +1,6 @@
 -- The answers of a call for the next record, and the state that its value ends as, since the record is borrowed from
 -- it.
-use Rattle.std.specs.Prelude.{◌≡◌, Option, Some, None, Result, Ok, Err, ⊤}
+use Rattle.std.specs.Prelude.{Option, Some, None, Result, Ok, Err, ⊤}
 use Rattle.std.specs.Borrow.{follows_so, MutBor, Fml}
 use mathlib.Core.Option.{none}
 use Rattle.knx_base.specs.Files.{Seen}
@@ -11,7 +11,7 @@ use Rattle.frame_file.specs.contracts.records.Records.{the_row}
 
 abbrev pub Gives : Seen → Seen → RecordsState → RecordsState → Result (Option Record) RecordFault → Type 0
 Gives seen later old new (Ok (Some found)) =
-    TakesRecord seen later old new found.number found.octets.now × (found.time ≡ None)
+    TakesRecord seen later old new found.number (record { time = found.time; octets = found.octets.now })
 Gives seen later old new (Ok None) = Ends seen later old new
 Gives seen later old new (Err fault) = Fails seen later old new fault
 

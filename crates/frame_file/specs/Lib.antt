@@ -1,5 +1,12 @@
+pub mod Lists
+pub mod Logs
 pub mod Records
+pub mod Lead
+pub mod LeadView
+pub mod LogTurns
+pub mod LogReads
 pub mod Reader
 pub mod State
+pub mod Stages
 pub mod Next
 pub mod Given

@@ -1,6 +1,7 @@
 -- What a call for the next record does.
-use Rattle.std.specs.Prelude.{◌≡◌, ℕ, ◌⊎◌, Bool, true, false, List, Option, Some, None, IsSome, Result, Ok, Err}
+use Rattle.std.specs.Prelude.{◌≡◌, ℕ, ◌⊎◌, Bool, true, false, Option, Some, None, IsSome, Result, Ok, Err}
 use Rattle.knx_base.specs.Files.{Seen}
+use Rattle.frame_file.specs.Lists.{Entry}
 use Rattle.frame_file.specs.Reader.{ReaderState, IsAt, GivesRecord, FindsEnd, Refuses, Leaves}
 use Rattle.frame_file.specs.declared.fault.RecordFault.{RecordFault}
 
@@ -14,12 +15,12 @@ abbrev pub IsReading : Seen → RecordsState → Type 0
 IsReading seen state = state.fault ≡ None → IsAt seen state.reader
 
 -- the next record was given
-pub record TakesRecord (seen later : Seen) (old new : RecordsState) (number : ℕ) (octets : List ℕ) : Type 0 where
+pub record TakesRecord (seen later : Seen) (old new : RecordsState) (number : ℕ) (entry : Entry) : Type 0 where
   pub no_fault : old.fault ≡ None
   pub still_none : new.fault ≡ None
   pub gives : GivesRecord seen later old.reader new.reader
   pub number_is : number ≡ new.reader.given
-  pub octets_is : octets ≡ new.reader.octets
+  pub entry_is : entry ≡ new.reader.record_
 
 -- all records were given
 pub record Ends (seen later : Seen) (old new : RecordsState) : Type 0 where
@@ -27,7 +28,7 @@ pub record Ends (seen later : Seen) (old new : RecordsState) : Type 0 where
   pub still_none : new.fault ≡ None
   pub ends : FindsEnd seen later old.reader new.reader
 
--- A fault is answered, and from now on. It was answered before and nothing is asked, or the list is refused by it here,
+-- A fault is answered, and from now on. It was answered before and nothing is asked, or the file is refused by it here,
 -- or the files failed.
 pub record Fails (seen later : Seen) (old new : RecordsState) (fault : RecordFault) : Type 0 where
   pub kept : new.fault ≡ Some fault

@@ -1,4 +1,5 @@
--- Which records a list of frames has. Each line that is not skipped is one word, the octets of a record in hexadecimal.
+-- Which records a file has. In a list of frames each line that is not skipped is one word, the octets of a record in
+-- hexadecimal; in a recorded log each element named Telegram is a record.
 use Rattle.std.specs.Prelude.{ℕ, ◌+◌, nat_lt, Bool, true, false, if◌then◌else◌, List, [], ◌∷◌, Option, Some, None, Result, Ok, Err}
 use Rattle.std.specs.Str.Lines.{lines}
 use Rattle.hex.specs.Hex.{decode_of}
@@ -8,6 +9,8 @@ use Rattle.knx_base.specs.declared.cause.Cause.{Cause}
 use Rattle.knx_base.specs.declared.cause.Cause.TheVariants as cause
 use Rattle.frame_file.specs.declared.fault.RecordFault.{RecordFault}
 use Rattle.frame_file.specs.declared.fault.RecordFault.TheVariants.{Line, LongLine, TooMany}
+use Rattle.frame_file.specs.Lists.{RecordList, untimed, no_records, refused_by, with_record}
+use Rattle.frame_file.specs.Logs.{is_log, log_of}
 
 -- the most records that a list may have
 abbrev pub most_records : ℕ
@@ -40,20 +43,6 @@ said_by (Err fault) octets = Err fault
 
 -- ---- the list
 
--- the records up to the end, or up to the first refusal and that refusal
-pub record RecordList : Type 0 where
-  pub records : List (List ℕ)
-  pub refused : Option RecordFault
-
-abbrev pub no_records : RecordList
-no_records = record { records = []; refused = None }
-
-abbrev pub refused_by : RecordFault → RecordList
-refused_by fault = record { records = []; refused = Some fault }
-
-abbrev pub with_record : List ℕ → RecordList → RecordList
-with_record octets list = record { records = octets ∷ list.records; refused = list.refused }
-
 -- the refusal of the line of this number
 abbrev pub refusal_of : ℕ → Cause → RecordFault
 refusal_of number cause.Long = LongLine number
@@ -69,7 +58,7 @@ records_in (Err fault) = 0
 abbrev pub from_line : ℕ → ℕ → Result (Option (List ℕ)) Cause → RecordList → RecordList
 from_line number before (Ok None) rest = rest
 from_line number before (Ok (Some octets)) rest =
-    if nat_lt before most_records then with_record octets rest else refused_by (TooMany number)
+    if nat_lt before most_records then with_record (untimed octets) rest else refused_by (TooMany number)
 from_line number before (Err fault) rest = refused_by (refusal_of number fault)
 
 -- the list that these lines say, where so many lines and records stand before them
@@ -79,6 +68,10 @@ records_from lines_before before (line ∷ rest) =
     from_line (lines_before + 1) before (record_of line) (records_from (lines_before + 1)
     (before + records_in (record_of line)) rest)
 
+-- the list of a list of frames with these octets
+abbrev pub listed_in : List ℕ → RecordList
+listed_in octets = records_from 0 0 (lines octets)
+
 -- the list of a file with these octets
-abbrev pub records_of : List ℕ → RecordList
-records_of octets = records_from 0 0 (lines octets)
+unfoldable pub records_of : List ℕ → RecordList
+records_of octets = if is_log octets then log_of octets else listed_in octets

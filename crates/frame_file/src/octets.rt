@@ -6,8 +6,8 @@ use knx_base::Cause;
 use std::marker::Model;
 use text_lines::judge_line;
 
-/// The most octets that a line writes, two digits each.
-const ROOM: usize = 512;
+// The most octets that an element of a log writes; a line writes fewer.
+const ROOM: usize = 1024;
 
 /// The octets of one record. A contract sees the octets alone.
 #[derive(Drop)]
@@ -21,7 +21,7 @@ impl Model for Octets {
 
     ghost view = { λ o. take o.len o.store };
 
-    ghost invariant = { λ o. o.len ≤ 512 };
+    ghost invariant = { λ o. o.len ≤ 1024 };
 }
 
 impl Octets {
@@ -38,6 +38,15 @@ impl Octets {
         ensures octets { result.now ≡ self.now }
     {
         &self.store[..self.len]
+    }
+
+    /// Takes these octets.
+    pub(crate) fn set(&mut self, octets: &[u8])
+        requires room { length octets.now ≤ 1024 }
+        ensures octets { self.new ≡ octets.now }
+    {
+        self.len = octets.len();
+        self.store[..self.len].copy_from_slice(octets);
     }
 
     // Takes the octets that a word writes in hexadecimal.

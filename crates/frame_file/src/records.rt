@@ -1,26 +1,29 @@
 use crate::RecordFault;
 use crate::reader::Reader;
+use crate::stage::Stage;
 use knx_base::{Files, NoMemory};
 use std::alloc::Global;
 use std::marker::Model;
 
-/// One record of a list.
+/// One record.
 #[derive(Clone, Copy, Debug, PartialEq, Eq)]
 pub struct Record<'a> {
     /// Its number, counted from 1.
     pub number: u64,
-    /// When it was recorded, in milliseconds since 1970-01-01T00:00:00Z. A list of frames says no time.
+    /// When it was recorded, in milliseconds since 1970-01-01T00:00:00Z, rounded down. A list of frames says no time.
     pub time: Option<i64>,
     pub octets: &'a [u8],
 }
 
-/// The records of the current file, a list of frames: each line is the octets of one in hexadecimal, and a line without
-/// words or whose first word begins with `#` is skipped. The file is read in pieces, and the value has room for one
-/// line.
+/// The records of the current file. Where its first octet, after a byte order mark and white space, is `<`, it is a
+/// recorded log: each element named Telegram is one, and the file is read whole at the first call. Otherwise it is a
+/// list of frames: each line is the octets of one in hexadecimal, and a line without words or whose first word begins
+/// with `#` is skipped. A list takes no memory: the value has room for one line.
 ///
 /// A contract sees how far it is, and the fault that is answered from now on, if there is one.
 #[derive(Drop)]
 pub struct Records {
+    alloc: Global,
     reader: Reader,
     fault: Option<RecordFault>,
 }
@@ -37,22 +40,25 @@ impl Model for Records {
 impl Records {
     ghost use Rattle.std.specs.Prelude.{◌≡◌, ◌≢◌, ◌≤◌, [], None, Err, IfOk};
     ghost use Rattle.std.specs.Borrow.{sem};
+    ghost use Rattle.frame_file.specs.Lists.{untimed};
     ghost use Rattle.frame_file.specs.Next.{IsReading, Goes};
     ghost use Rattle.frame_file.specs.Given.{Gives, EndsSo};
 
     /// Ready for a file that was opened and of which nothing was read.
-    pub fn new(_alloc: Global) -> Result<Records, NoMemory>
+    pub fn new(alloc: Global) -> Result<Records, NoMemory>
         ensures start { IfOk result (λ records. records ≡ record {
           reader = record {
+            stage = Stage.Start;
             lines = 0;
             given = 0;
             held = [];
-            octets = [];
+            record_ = untimed [];
           };
           fault = None;
         }) }
     {
         Ok(Records {
+            alloc,
             reader: Reader::new(),
             fault: None,
         })
@@ -83,7 +89,7 @@ impl Records {
         if let Some(fault) = self.fault {
             return Err(fault);
         }
-        match self.reader.advance(files) {
+        match self.reader.advance(self.alloc, files) {
             Ok(found) => Ok(found),
             Err(fault) => {
                 self.fault = Some(fault);
@@ -94,12 +100,12 @@ impl Records {
 
     fn record(&self) -> Record<'_>
         ensures number { result.number ≡ self.now.reader.given }
-        ensures octets { result.octets.now ≡ self.now.reader.octets }
-        ensures time { result.time ≡ None }
+        ensures octets { result.octets.now ≡ self.now.reader.record_.octets }
+        ensures time { result.time ≡ self.now.reader.record_.time }
     {
         Record {
             number: self.reader.given(),
-            time: None,
+            time: self.reader.time(),
             octets: self.reader.octets(),
         }
     }

@@ -1,9 +1,10 @@
 ghost use Rattle.std.specs.Prelude.{◌≤◌, ◌^◌, length};
 
-use crate::{Record, RecordFault, Records};
+use crate::{Field, Record, RecordFault, Records};
 use knx_base::{Cause, Files, MemFiles};
 use std::alloc::Global;
 use std::test::Fail;
+use tag_text::TagFault;
 
 #[test]
 fn records_are_numbered_past_skipped_lines(rt: HostRuntime) -> Result<(), Fail> {
@@ -71,6 +72,128 @@ fn a_fault_is_answered_again(rt: HostRuntime) -> Result<(), Fail> {
         records.next(&mut files).err(),
         Some(RecordFault::ReadFault)
     );
+    Ok(())
+}
+
+// The times are those of the two instants, in milliseconds, rounded down.
+#[test]
+fn a_log_gives_its_telegrams(rt: HostRuntime) -> Result<(), Fail> {
+    let mut files = MemFiles::new(rt.alloc());
+    files.add(
+        "log",
+        b"\xef\xbb\xbf\r\n <?xml version='1.0'?><Log><Note><Telegram RawData='2900bC' Timestamp='2024-03-01T10:00:00Z'>\
+        <Other/><Telegram Timestamp=\"1969-12-31T23:59:59.9995Z\" RawData=\"0F\"/></Telegram></Note></Log>\n",
+    )?;
+    files.open("log").ok().ok_or("not opened")?;
+    let mut records = Records::new(rt.alloc())?;
+    let first = Record {
+        number: 1,
+        time: Some(1_709_287_200_000),
+        octets: &[0x29, 0, 0xbc],
+    };
+    let second = Record {
+        number: 2,
+        time: Some(-1),
+        octets: &[0x0f],
+    };
+    assert_eq!(rt; records.next(&mut files), Ok(Some(first)));
+    assert_eq!(rt; records.next(&mut files), Ok(Some(second)));
+    assert_eq!(rt; records.next(&mut files), Ok(None));
+    assert_eq!(rt; records.next(&mut files), Ok(None));
+    Ok(())
+}
+
+#[test]
+fn a_log_is_refused_after_the_records_before(rt: HostRuntime) -> Result<(), Fail> {
+    let mut files = MemFiles::new(rt.alloc());
+    files.add(
+        "log",
+        b"<Log><Telegram Timestamp='2024-03-01T10:00:00Z' RawData='00'/>",
+    )?;
+    files.open("log").ok().ok_or("not opened")?;
+    let mut records = Records::new(rt.alloc())?;
+    let only = Record {
+        number: 1,
+        time: Some(1_709_287_200_000),
+        octets: &[0],
+    };
+    let fault = RecordFault::Tag(TagFault::Bad(62));
+    assert_eq!(rt; records.next(&mut files), Ok(Some(only)));
+    assert_eq!(rt; records.next(&mut files), Err(fault));
+    assert_eq!(rt; records.next(&mut files), Err(fault));
+    Ok(())
+}
+
+#[test]
+fn elements_of_other_forms_are_refused(rt: HostRuntime) -> Result<(), Fail> {
+    assert_eq!(rt;
+        fault_in(rt.alloc(), b"<Log><Telegram/></Log>")?,
+        Some(RecordFault::Missing(Field::Timestamp, 5))
+    );
+    assert_eq!(rt;
+        fault_in(rt.alloc(), b"<Telegram Timestamp=''/>")?,
+        Some(RecordFault::Missing(Field::RawData, 0))
+    );
+    assert_eq!(rt;
+        fault_in(
+            rt.alloc(),
+            b"<Telegram Timestamp='2024-03-01' RawData='0'/>"
+        )?,
+        Some(RecordFault::Time(0))
+    );
+    assert_eq!(rt;
+        fault_in(
+            rt.alloc(),
+            b"<Telegram Timestamp='2024-03-01T10:00:00Z' RawData='0'/>"
+        )?,
+        Some(RecordFault::Digits(0))
+    );
+    assert_eq!(rt;
+        fault_in(
+            rt.alloc(),
+            b"<Telegram Timestamp='2024-03-01T10:00:00Z' RawData=''/>"
+        )?,
+        Some(RecordFault::Digits(0))
+    );
+    assert_eq!(rt;
+        fault_in(rt.alloc(), b"<Log>\xff</Log>")?,
+        Some(RecordFault::Tag(TagFault::Utf8(5)))
+    );
+    Ok(())
+}
+
+// More than one piece is read of each.
+#[test]
+fn both_kinds_are_read_in_pieces(rt: HostRuntime) -> Result<(), Fail> {
+    let mut files = MemFiles::new(rt.alloc());
+    let mut list = Vec::new(rt.alloc());
+    list.resize(1000, b'\n')?;
+    list.extend_from_slice(b"00")?;
+    files.add("list", &list)?;
+    let mut log = Vec::new(rt.alloc());
+    log.resize(1000, b' ')?;
+    log.extend_from_slice(b"<Log>")?;
+    log.resize(2000, b'x')?;
+    log.extend_from_slice(b"<Telegram Timestamp='1970-01-01T00:00:00Z' RawData='ff'/></Log>")?;
+    files.add("log", &log)?;
+    files.open("list").ok().ok_or("not opened")?;
+    let mut records = Records::new(rt.alloc())?;
+    let listed = Record {
+        number: 1,
+        time: None,
+        octets: &[0],
+    };
+    assert_eq!(rt; records.next(&mut files), Ok(Some(listed)));
+    assert_eq!(rt; records.next(&mut files), Ok(None));
+    files.open("log").ok().ok_or("not opened")?;
+    let mut records = Records::new(rt.alloc())?;
+    let logged = Record {
+        number: 1,
+        time: Some(0),
+        octets: &[0xff],
+    };
+    assert_eq!(rt; records.next(&mut files), Ok(Some(logged)));
+    assert_eq!(rt; records.next(&mut files), Ok(None));
     Ok(())
 }
 
