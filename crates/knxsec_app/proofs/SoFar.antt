@@ -1,5 +1,5 @@
 -- The loop over the records: what was printed, what waits, and the answer to what is left are the whole answer.
-use Rattle.std.proofs.Common.{◌≡◌, ℕ, List, [], ◌∷◌, ◌++◌, length, drop, Option, Some, None, Result, Ok, Err, refl, sym, ap, subst, ◌∙◌, append_assoc, ℤ, ◌-◌, ◌⊎◌, inl, inr, arith}
+use Rattle.std.proofs.Common.{◌≡◌, ◌≤◌, ℕ, List, [], ◌∷◌, ◌++◌, length, drop, Option, Some, None, Result, Ok, Err, refl, sym, ap, subst, ◌∙◌, append_assoc, ◌-◌, ◌⊎◌, inl, inr, arith}
 use Rattle.std.specs.Prelude.{codes}
 use Rattle.std.proofs.lemmas.List.{length-drop}
 use Rattle.std.proofs.lemmas.Option.{none-some}
@@ -13,10 +13,15 @@ use Rattle.key_tables.specs.declared.types.Row.{Row}
 use Rattle.frame_file.specs.declared.fault.RecordFault.{RecordFault}
 use Rattle.frame_file.specs.declared.fault.RecordFault.TheVariants as fault_
 use Rattle.frame_file.specs.declared.records.Record.{Record}
+use Rattle.frame_file.specs.declared.stage.Stage.{Stage}
+use Rattle.frame_file.specs.declared.stage.Stage.TheVariants as stage_
 use Rattle.frame_file.specs.Given.{Gives}
+use Rattle.frame_file.specs.Lists.{Entry, RecordList, untimed, with_record, no_records, refused_by}
+use Rattle.frame_file.specs.Logs.{most_logged}
 use Rattle.frame_file.specs.Next.{RecordsState, TakesRecord, Ends}
-use Rattle.frame_file.specs.Reader.{ReaderState, Refuses, left}
-use Rattle.frame_file.specs.Records.{RecordList, with_record, no_records, refused_by, records_of}
+use Rattle.frame_file.specs.Reader.{ReaderState, Refuses, left, most_given}
+use Rattle.frame_file.specs.Records.{records_of}
+use Rattle.tag_text.specs.declared.tag.TagFault.TheVariants as tag
 use Rattle.audit_core.specs.declared.line.Line.{Line}
 use Rattle.audit_core.specs.Audit.{apdu_of, line_of, total_of}
 use Rattle.audit_core.specs.State.{AuditState, Knows}
@@ -42,11 +47,14 @@ pub record SoFar (start now : Seen) (rows : List Row) (audit : AuditState) (reco
 after_nil : (answer : Answer) → after [] answer ≡ answer
 after_nil answer = refl
 
+-- a reader before the first octet
+abbrev none_read : ReaderState
+none_read = record { stage = stage_.Start; lines = 0; given = 0; held = []; record_ = untimed [] }
+
 -- nothing was read
 pub begins : (start : Seen) (rows : List Row) (audit : AuditState) (records : ReaderState) (held : List ℕ)
     (out : Option (List ℕ))
-    → start.place ≡ 0 → Knows audit [] → audit.rows ≡ rows → records
-    ≡ record { lines = 0; given = 0; held = []; octets = [] } → held ≡ []
+    → start.place ≡ 0 → Knows audit [] → audit.rows ≡ rows → records ≡ none_read → held ≡ []
     → SoFar start start rows audit records held out out
 begins start rows audit records held out at_start knows rows_are none empty = record {
   past = [];
@@ -55,17 +63,16 @@ begins start rows audit records held out at_start knows rows_are none empty = re
   front = [];
   printed = sym (append_known-nil out);
   left_is = λ octets has.
-      ap (λ place. frames_answer rows [] (left (record start { place = place })
-      (record { lines = 0; given = 0; held = []; octets = [] }) octets)) (sym at_start)
+      ap (λ place. frames_answer rows [] (left (record start { place = place }) none_read octets)) (sym at_start)
       ∙ (λ i. after (sym empty i) (frames_answer rows [] (left start (sym none i) octets)));
 }
 
 -- the answer to a list with one record more
-one_more : (rows : List Row) (past : List (List ℕ)) (octets : List ℕ) (list : RecordList)
-    → frames_answer rows past (with_record octets list) ≡ after (record_line rows past octets)
-    (frames_answer rows (octets ∷ past) list)
+one_more : (rows : List Row) (past : List (List ℕ)) (entry : Entry) (list : RecordList)
+    → frames_answer rows past (with_record entry list) ≡ after (record_line rows past entry)
+    (frames_answer rows (entry.octets ∷ past) list)
 unfolding frames_answer
-one_more rows past octets list = refl
+one_more rows past entry list = refl
 
 -- a text that waited, and one after it, of which a front was handed on
 regrouped : (front held line handed kept : List ℕ) → handed ++ kept ≡ held ++ line → (answer : Answer)
@@ -78,24 +85,24 @@ regrouped front held line handed kept same answer = ap (λ text. record { report
 -- one more record was taken, and its line passed on
 pub goes_on : (start now later : Seen) (rows : List Row) (audit next : AuditState) (records following : ReaderState)
     (held kept : List ℕ)
-    (old mid new : Option (List ℕ)) (octets apdu : List ℕ) (time : Option ℤ) (line : Line)
+    (old mid new : Option (List ℕ)) (entry : Entry) (apdu : List ℕ) (line : Line)
     → SoFar start now rows audit records held old mid
     → GoesOn start now [] records.held 0
-    → WhereTold now (λ all. left now records all ≡ with_record octets (left later following all))
-    → ((past : List (List ℕ)) → Knows audit past → (line ≡ line_of audit.rows past octets) × Knows next (octets ∷ past))
+    → WhereTold now (λ all. left now records all ≡ with_record entry (left later following all))
+    → ((past : List (List ℕ)) → Knows audit past → (line ≡ line_of audit.rows past entry.octets)
+    × Knows next (entry.octets ∷ past))
     → next.rows ≡ audit.rows
-    → ((past : List (List ℕ)) → Knows audit past → apdu ≡ apdu_of audit.rows past octets)
-    → time ≡ None
-    → (handed : List ℕ) × (new ≡ append_known mid handed) × (handed ++ kept ≡ held ++ line_text line time apdu)
+    → ((past : List (List ℕ)) → Knows audit past → apdu ≡ apdu_of audit.rows past entry.octets)
+    → (handed : List ℕ) × (new ≡ append_known mid handed) × (handed ++ kept ≡ held ++ line_text line entry.time apdu)
     → SoFar start later rows next following kept old new
-goes_on start now later rows audit next records following held kept old mid new octets apdu time line so_far goes taken
-    knows rows_stay opened untimed passed =
+goes_on start now later rows audit next records following held kept old mid new entry apdu line so_far goes taken
+    knows rows_stay opened passed =
     let told = knows so_far.past so_far.knows in
-    let is_line : line_text line time apdu ≡ record_line rows so_far.past octets =
-    (λ i. line_text (told.0 i) (untimed i) (opened so_far.past so_far.knows i))
-    ∙ ap (λ rows. record_line rows so_far.past octets) so_far.rows_are in
+    let is_line : line_text line entry.time apdu ≡ record_line rows so_far.past entry =
+    (λ i. line_text (told.0 i) entry.time (opened so_far.past so_far.knows i))
+    ∙ ap (λ rows. record_line rows so_far.past entry) so_far.rows_are in
     record {
-      past = octets ∷ so_far.past;
+      past = entry.octets ∷ so_far.past;
       knows = told.1;
       rows_are = rows_stay ∙ so_far.rows_are;
       front = so_far.front ++ passed.0;
@@ -105,9 +112,9 @@ goes_on start now later rows audit next records following held kept old mid new 
           so_far.left_is all has
           ∙ ap (λ list. after (so_far.front ++ held) (frames_answer rows so_far.past list))
           (taken all (has_same start now [] records.held 0 goes all has))
-          ∙ ap (after (so_far.front ++ held)) (one_more rows so_far.past octets (left later following all))
-          ∙ regrouped so_far.front held (record_line rows so_far.past octets) passed.0 kept
-          (passed.2 ∙ ap (λ text. held ++ text) is_line) (frames_answer rows (octets ∷ so_far.past)
+          ∙ ap (after (so_far.front ++ held)) (one_more rows so_far.past entry (left later following all))
+          ∙ regrouped so_far.front held (record_line rows so_far.past entry) passed.0 kept
+          (passed.2 ∙ ap (λ text. held ++ text) is_line) (frames_answer rows (entry.octets ∷ so_far.past)
           (left later following all));
     }
 
@@ -159,32 +166,32 @@ wants_memory start now rows audit records held old mid new status so_far said oc
 -- the sink failed at the line of one more record
 pub stops_at_line : (start now later : Seen) (rows : List Row) (audit next : AuditState)
     (records following : ReaderState) (held : List ℕ)
-    (old mid new : Option (List ℕ)) (octets apdu : List ℕ) (time : Option ℤ) (line : Line)
+    (old mid new : Option (List ℕ)) (entry : Entry) (apdu : List ℕ) (line : Line)
     → SoFar start now rows audit records held old mid
     → GoesOn start now [] records.held 0
-    → WhereTold now (λ all. left now records all ≡ with_record octets (left later following all))
-    → ((past : List (List ℕ)) → Knows audit past → (line ≡ line_of audit.rows past octets) × Knows next (octets ∷ past))
-    → ((past : List (List ℕ)) → Knows audit past → apdu ≡ apdu_of audit.rows past octets)
-    → time ≡ None
-    → AppendsPrefix mid new (held ++ line_text line time apdu)
+    → WhereTold now (λ all. left now records all ≡ with_record entry (left later following all))
+    → ((past : List (List ℕ)) → Knows audit past → (line ≡ line_of audit.rows past entry.octets)
+    × Knows next (entry.octets ∷ past))
+    → ((past : List (List ℕ)) → Knows audit past → apdu ≡ apdu_of audit.rows past entry.octets)
+    → AppendsPrefix mid new (held ++ line_text line entry.time apdu)
     → WhereTold start (λ all. AppendsPrefix old new (frames_answer rows [] (records_of all)).report)
-stops_at_line start now later rows audit next records following held old mid new octets apdu time line so_far goes taken
-    knows opened untimed begun all has =
+stops_at_line start now later rows audit next records following held old mid new entry apdu line so_far goes taken
+    knows opened begun all has =
     let told = knows so_far.past so_far.knows in
-    let is_line : line_text line time apdu ≡ record_line rows so_far.past octets =
-    (λ i. line_text (told.0 i) (untimed i) (opened so_far.past so_far.knows i))
-    ∙ ap (λ rows. record_line rows so_far.past octets) so_far.rows_are in
-    let rest = frames_answer rows (octets ∷ so_far.past) (left later following all) in
+    let is_line : line_text line entry.time apdu ≡ record_line rows so_far.past entry =
+    (λ i. line_text (told.0 i) entry.time (opened so_far.past so_far.knows i))
+    ∙ ap (λ rows. record_line rows so_far.past entry) so_far.rows_are in
+    let rest = frames_answer rows (entry.octets ∷ so_far.past) (left later following all) in
     let is_left : frames_answer rows so_far.past (left now records all)
-    ≡ after (record_line rows so_far.past octets) rest =
+    ≡ after (record_line rows so_far.past entry) rest =
     ap (frames_answer rows so_far.past) (taken all (has_same start now [] records.held 0 goes all has))
-    ∙ one_more rows so_far.past octets (left later following all) in
-    let text : (held ++ line_text line time apdu) ++ rest.report ≡ held
+    ∙ one_more rows so_far.past entry (left later following all) in
+    let text : (held ++ line_text line entry.time apdu) ++ rest.report ≡ held
     ++ (frames_answer rows so_far.past (left now records all)).report =
-    append_assoc held (line_text line time apdu) rest.report ∙ ap (λ text. held ++ (text ++ rest.report)) is_line
+    append_assoc held (line_text line entry.time apdu) rest.report ∙ ap (λ text. held ++ (text ++ rest.report)) is_line
     ∙ ap (λ answer. held ++ answer.report) (sym is_left) in
     answers_all start now rows audit records held old mid new WriteFault so_far all has
-    (subst (AppendsPrefix mid new) text (prefix_more mid new (held ++ line_text line time apdu) rest.report begun))
+    (subst (AppendsPrefix mid new) text (prefix_more mid new (held ++ line_text line entry.time apdu) rest.report begun))
 
 none_left : (rows : List Row) (past : List (List ℕ)) → frames_answer rows past no_records
     ≡ record { report = total_text (total_of rows past); status = total_status (total_of rows past) }
@@ -234,6 +241,14 @@ refuses start now later rows audit records held old mid new status fault so_far 
   by_fault (fault_.Line number cause) is said = at_text (fault_.Line number cause) is said
   by_fault (fault_.LongLine number) is said = at_text (fault_.LongLine number) is said
   by_fault (fault_.TooMany number) is said = at_text (fault_.TooMany number) is said
+  by_fault fault_.LongFile is said = at_text fault_.LongFile is said
+  by_fault (fault_.Tag (tag.Bad place)) is said = at_text (fault_.Tag (tag.Bad place)) is said
+  by_fault (fault_.Tag (tag.Utf8 place)) is said = at_text (fault_.Tag (tag.Utf8 place)) is said
+  by_fault (fault_.Tag (tag.Deep place)) is said = at_text (fault_.Tag (tag.Deep place)) is said
+  by_fault (fault_.Tag tag.NoMemory) is said = absurd is
+  by_fault (fault_.Missing field place) is said = at_text (fault_.Missing field place) is said
+  by_fault (fault_.Time place) is said = at_text (fault_.Time place) is said
+  by_fault (fault_.Digits place) is said = at_text (fault_.Digits place) is said
   by_fault fault_.ReadFault is said = λ all has. subst (λ s. Answers (frames_answer rows [] (records_of all)) s old new)
       (sym said.0) (stops start now rows audit records held old mid new so_far said.1 all has)
   by_fault fault_.NoMemory is said =
@@ -260,7 +275,7 @@ reads_to_end start now later held kept at_start first then_ whole =
 pub some_given : (seen later : Seen) (old new : RecordsState) (result : Result (Option Record) RecordFault)
     (found : Option Record) (given : Record)
     → result ≡ Ok found → found ≡ Some given → Gives seen later old new result
-    → TakesRecord seen later old new given.number given.octets.now × (given.time ≡ None)
+    → TakesRecord seen later old new given.number (record { time = given.time; octets = given.octets.now })
 some_given seen later old new result found given is some gives =
     subst (Gives seen later old new) (is ∙ ap Ok some) gives
 
@@ -283,13 +298,19 @@ fault_given seen later old new result fault is no_fault gives =
 pub gives_told : (seen later : Seen) (old new : RecordsState) (result : Result (Option Record) RecordFault)
     → old.fault ≡ None → Gives seen later old new result
     → later.told ≡ seen.told
-gives_told seen later old new (Ok (Some given)) no_fault gives = gives.0.gives.goes.told
+gives_told seen later old new (Ok (Some given)) no_fault gives = gives.gives.goes.told
 gives_told seen later old new (Ok None) no_fault gives = gives.ends.goes.told
 gives_told seen later old new (Err fault) no_fault gives = (gives.first no_fault).told
 
 -- the first of the records that were left is the one that was given
-pub first_left : (seen later : Seen) (old new : RecordsState) (number : ℕ) (octets : List ℕ)
-    → TakesRecord seen later old new number octets
-    → WhereTold seen (λ all. left seen old.reader all ≡ with_record octets (left later new.reader all))
-first_left seen later old new number octets takes = λ all has.
-    takes.gives.left_is all has ∙ ap (λ first. with_record first (left later new.reader all)) (sym takes.octets_is)
+pub first_left : (seen later : Seen) (old new : RecordsState) (number : ℕ) (entry : Entry)
+    → TakesRecord seen later old new number entry
+    → WhereTold seen (λ all. left seen old.reader all ≡ with_record entry (left later new.reader all))
+first_left seen later old new number entry takes = λ all has.
+    takes.gives.left_is all has ∙ ap (λ first. with_record first (left later new.reader all)) (sym takes.entry_is)
+
+-- no file has more records than a log may have octets
+pub few_given : (stage : Stage) → most_given stage ≤ most_logged
+few_given stage_.Start = grind (arith)
+few_given stage_.Lines = grind (arith)
+few_given (stage_.Log list) = grind (arith)

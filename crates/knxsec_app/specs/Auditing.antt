@@ -11,7 +11,8 @@ use Rattle.key_tables.specs.Text.{tables_of}
 use Rattle.keyring_reader.specs.declared.fault.KeyringFault.{KeyringFault}
 use Rattle.keyring_reader.specs.Keyring.{keyring_of}
 use Rattle.frame_file.specs.declared.fault.RecordFault.{RecordFault}
-use Rattle.frame_file.specs.Records.{RecordList, records_of}
+use Rattle.frame_file.specs.Lists.{Entry, RecordList}
+use Rattle.frame_file.specs.Records.{records_of}
 use Rattle.audit_core.specs.Audit.{Total, apdu_of, line_of, total_of}
 use Rattle.audit_core.specs.Text.{line_text, total_text}
 use Rattle.knxsec_app.specs.declared.status.Status.{Status}
@@ -77,9 +78,9 @@ installation under tables = do
 
 -- ---- the records
 
--- the line of a record after these, of which the latest comes first
-abbrev pub record_line : List Row → List (List ℕ) → List ℕ → List ℕ
-record_line rows past octets = line_text (line_of rows past octets) None (apdu_of rows past octets)
+-- the line of a record after those with these octets, of which the latest comes first
+abbrev pub record_line : List Row → List (List ℕ) → Entry → List ℕ
+record_line rows past entry = line_text (line_of rows past entry.octets) entry.time (apdu_of rows past entry.octets)
 
 abbrev pub total_status : Total → Status
 total_status total = if total.alarms == 0 then Done else Alarm
@@ -91,10 +92,10 @@ last_answer rows past None =
 last_answer rows past (Some fault) = refused (codes "frames") (frames_reason fault)
 
 -- the lines of these records after those, and then the total or the refusal
-abbrev pub records_answer : List Row → List (List ℕ) → List (List ℕ) → Option RecordFault → Answer
+abbrev pub records_answer : List Row → List (List ℕ) → List Entry → Option RecordFault → Answer
 records_answer rows past [] fault = last_answer rows past fault
-records_answer rows past (octets ∷ records) fault =
-    after (record_line rows past octets) (records_answer rows (octets ∷ past) records fault)
+records_answer rows past (entry ∷ records) fault =
+    after (record_line rows past entry) (records_answer rows (entry.octets ∷ past) records fault)
 
 unfoldable pub frames_answer : List Row → List (List ℕ) → RecordList → Answer
 frames_answer rows past list = records_answer rows past list.records list.refused

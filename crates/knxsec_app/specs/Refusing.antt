@@ -14,6 +14,8 @@ use Rattle.keyring_reader.specs.Attributes.{name_of}
 use Rattle.keyring_reader.specs.declared.fault.KeyringFault.{KeyringFault}
 use Rattle.keyring_reader.specs.declared.fault.KeyringFault.TheVariants as keyring
 use Rattle.hex.specs.Hex.{encode_lower}
+use Rattle.frame_file.specs.declared.fault.Field.{Field}
+use Rattle.frame_file.specs.declared.fault.Field.TheVariants as field
 use Rattle.frame_file.specs.declared.fault.RecordFault.{RecordFault}
 use Rattle.frame_file.specs.declared.fault.RecordFault.TheVariants as record_
 use Rattle.knx_base.specs.Sink.{AppendsPrefix}
@@ -43,14 +45,6 @@ script_reason (script.Twice number) = at_line number (codes "twice")
 script_reason (script.TooMany number) = at_line number (codes "many")
 script_reason script.NoMemory = []
 
--- No text is refused for a fault of reading or for want of memory.
-abbrev pub frames_reason : RecordFault → List ℕ
-frames_reason (record_.Line number cause) = at_line number (cause_word cause)
-frames_reason (record_.LongLine number) = at_line number (codes "long")
-frames_reason (record_.TooMany number) = at_line number (codes "many")
-frames_reason record_.ReadFault = []
-frames_reason record_.NoMemory = []
-
 abbrev pub at_place : ℕ → List ℕ → List ℕ
 at_place place word = codes " at " ++ decimal place ++ 32 ∷ [] ++ word
 
@@ -60,6 +54,27 @@ document_reason (tag.Utf8 place) = at_place place (codes "utf8")
 document_reason (tag.Deep place) = at_place place (codes "deep")
 document_reason tag.NoMemory = []
 
+abbrev pub missing_reason : List ℕ → ℕ → List ℕ
+missing_reason attribute place = at_place place (codes "missing " ++ attribute)
+
+-- the name of an attribute of a recorded log
+abbrev pub field_name : Field → List ℕ
+field_name field.Timestamp = codes "Timestamp"
+field_name field.RawData = codes "RawData"
+
+-- No text is refused for a fault of reading or for want of memory.
+abbrev pub frames_reason : RecordFault → List ℕ
+frames_reason (record_.Line number cause) = at_line number (cause_word cause)
+frames_reason (record_.LongLine number) = at_line number (codes "long")
+frames_reason (record_.TooMany number) = at_line number (codes "many")
+frames_reason record_.LongFile = codes " long"
+frames_reason (record_.Tag fault) = document_reason fault
+frames_reason (record_.Missing field place) = missing_reason (field_name field) place
+frames_reason (record_.Time place) = at_place place (codes "time")
+frames_reason (record_.Digits place) = at_place place (codes "digits")
+frames_reason record_.ReadFault = []
+frames_reason record_.NoMemory = []
+
 -- a signature in hexadecimal, or a dash where the text is none
 abbrev pub stored_text : Option (List ℕ) → List ℕ
 stored_text (Some stored) = encode_lower stored
@@ -68,7 +83,7 @@ stored_text None = codes "-"
 abbrev pub keyring_reason : KeyringFault → List ℕ
 keyring_reason (keyring.Tag fault) = document_reason fault
 keyring_reason keyring.NotKeyring = codes " root"
-keyring_reason (keyring.Missing attribute place) = at_place place (codes "missing " ++ name_of attribute)
+keyring_reason (keyring.Missing attribute place) = missing_reason (name_of attribute) place
 keyring_reason (keyring.LongText place) = at_place place (codes "long-text")
 keyring_reason (keyring.Signature stored computed) =
     codes " signature " ++ stored_text stored ++ 32 ∷ [] ++ encode_lower computed
@@ -93,8 +108,8 @@ abbrev pub EndsMerged : BuildFault → Status → Option (List ℕ) → Option (
 EndsMerged build.NoMemory ended old new = (ended ≡ status.NoMemory) × (new ≡ old)
 EndsMerged fault ended old new = Answers (refused (codes "keyring") (codes " many")) ended old new
 
--- What is answered where the reader of a list of frames ends with this fault: what waited, and then the refusal; or
--- that the files failed; or that memory was wanting, unless the sink did not take what waited.
+-- What is answered where the reader of records ends with this fault: what waited, and then the refusal; or that the
+-- files failed; or that memory was wanting, unless the sink did not take what waited.
 abbrev pub EndsList : RecordFault → List ℕ → Status → Option (List ℕ) → Option (List ℕ) → Type 0
 EndsList record_.ReadFault held ended old new = (ended ≡ status.ReadFault) × AppendsPrefix old new held
 EndsList record_.NoMemory held ended old new =

@@ -3,10 +3,11 @@ ghost use Rattle.keyring_reader.specs.Attributes.{name_of};
 ghost use Rattle.knxsec_app.specs.Answer.{Answer, Answers};
 ghost use Rattle.knxsec_app.specs.Commands.{IsWhole};
 ghost use Rattle.knxsec_app.specs.Ends.{EndsTelling, EndsWriting};
-ghost use Rattle.knxsec_app.specs.Refusing.{at_line, at_place, document_reason, keyring_reason, stored_text, refused, EndsMerged, EndsScript, EndsTables};
+ghost use Rattle.knxsec_app.specs.Refusing.{at_line, at_place, document_reason, field_name, frames_reason, keyring_reason, missing_reason, stored_text, refused, EndsMerged, EndsScript, EndsTables};
 
 use crate::Status;
 use crate::ending::ended;
+use frame_file::{Field, RecordFault};
 use key_tables::{BuildFault, TablesFault};
 use keyring_reader::{Attribute, KeyringFault};
 use knx_base::{LineBuf, Sink, print_text};
@@ -97,6 +98,34 @@ pub(crate) fn line_at(file: &str, number: u64, word: &str) -> LineBuf
     line
 }
 
+/// Why the records of a file are refused. A reader that stopped without a refusal has no reason to tell.
+pub(crate) fn frames_line(fault: &RecordFault) -> LineBuf
+    ensures { result ≡ (refused (codes "frames") (frames_reason fault.now)).report }
+{
+    match fault {
+        RecordFault::Line(line, cause) => line_at("frames", *line, cause.word()),
+        RecordFault::LongLine(line) => line_at("frames", *line, "long"),
+        RecordFault::TooMany(line) => line_at("frames", *line, "many"),
+        RecordFault::LongFile => whole_line("frames", " long"),
+        RecordFault::Tag(fault) => document_line("frames", fault),
+        RecordFault::Missing(field, place) => missing_line("frames", *place, field_name(*field)),
+        RecordFault::Time(place) => place_line("frames", *place, "time"),
+        RecordFault::Digits(place) => place_line("frames", *place, "digits"),
+        RecordFault::ReadFault => whole_line("frames", ""),
+        RecordFault::NoMemory => whole_line("frames", ""),
+    }
+}
+
+fn field_name(field: Field) -> &'static str
+    ensures name { result.now ≡ field_name field }
+    ensures short { length result.now ≤ 20 }
+{
+    match field {
+        Field::Timestamp => "Timestamp",
+        Field::RawData => "RawData",
+    }
+}
+
 /// Says that there are too many merged rows: no two of them say the same.
 pub(crate) fn refuse_merged<S: Sink>(fault: &BuildFault, out: &mut S) -> Status
     ensures answer { EndsMerged fault.now result (S.octets out.old) (S.octets out.new) }
@@ -132,35 +161,43 @@ fn keyring_line(fault: &KeyringFault) -> LineBuf
     ensures { result ≡ (refused (codes "keyring") (keyring_reason fault.now)).report }
 {
     match fault {
-        KeyringFault::Tag(fault) => document_line(fault),
+        KeyringFault::Tag(fault) => document_line("keyring", fault),
         KeyringFault::NotKeyring => whole_line("keyring", " root"),
-        KeyringFault::Missing(attribute, place) => missing_line(*attribute, *place),
-        KeyringFault::LongText(place) => place_line(*place, "long-text"),
+        KeyringFault::Missing(attribute, place) => {
+            missing_line("keyring", *place, attribute_name(*attribute))
+        }
+        KeyringFault::LongText(place) => place_line("keyring", *place, "long-text"),
         KeyringFault::Signature { stored, computed } => signature_line(stored, computed),
-        KeyringFault::Key(place) => place_line(*place, "key"),
-        KeyringFault::Address(place) => place_line(*place, "address"),
-        KeyringFault::Twice(place) => place_line(*place, "twice"),
+        KeyringFault::Key(place) => place_line("keyring", *place, "key"),
+        KeyringFault::Address(place) => place_line("keyring", *place, "address"),
+        KeyringFault::Twice(place) => place_line("keyring", *place, "twice"),
         KeyringFault::NoMemory => whole_line("keyring", ""),
     }
 }
 
-fn document_line(fault: &TagFault) -> LineBuf
-    ensures { result ≡ (refused (codes "keyring") (document_reason fault.now)).report }
+// Why a file is no document of elements.
+fn document_line(file: &str, fault: &TagFault) -> LineBuf
+    requires short { length file.now ≤ 20 }
+    ensures { result ≡ (refused file.now (document_reason fault.now)).report }
 {
     match fault {
-        TagFault::Bad(place) => place_line(*place, "bad"),
-        TagFault::Utf8(place) => place_line(*place, "utf8"),
-        TagFault::Deep(place) => place_line(*place, "deep"),
-        TagFault::NoMemory => whole_line("keyring", ""),
+        TagFault::Bad(place) => place_line(file, *place, "bad"),
+        TagFault::Utf8(place) => place_line(file, *place, "utf8"),
+        TagFault::Deep(place) => place_line(file, *place, "deep"),
+        TagFault::NoMemory => whole_line(file, ""),
     }
 }
 
-fn place_line(place: usize, word: &str) -> LineBuf
-    requires short { length word.now ≤ 20 }
-    ensures { result ≡ (refused (codes "keyring") (at_place place word.now)).report }
+// The line for a file that is refused for a word at this place.
+fn place_line(file: &str, place: usize, word: &str) -> LineBuf
+    requires short { length file.now ≤ 20 }
+    requires short_word { length word.now ≤ 20 }
+    ensures { result ≡ (refused file.now (at_place place word.now)).report }
 {
     let mut line = LineBuf::new();
-    line.text("refused keyring at ");
+    line.text("refused ");
+    line.text(file);
+    line.text(" at ");
     line.decimal(place as u64);
     line.octet(b' ');
     line.text(word);
@@ -168,14 +205,19 @@ fn place_line(place: usize, word: &str) -> LineBuf
     line
 }
 
-fn missing_line(attribute: Attribute, place: usize) -> LineBuf
-    ensures { result ≡ (refused (codes "keyring") (at_place place (codes "missing " ++ name_of attribute))).report }
+// The line for a file whose element at this place lacks an attribute.
+fn missing_line(file: &str, place: usize, attribute: &str) -> LineBuf
+    requires short { length file.now ≤ 20 }
+    requires short_attribute { length attribute.now ≤ 20 }
+    ensures { result ≡ (refused file.now (missing_reason attribute.now place)).report }
 {
     let mut line = LineBuf::new();
-    line.text("refused keyring at ");
+    line.text("refused ");
+    line.text(file);
+    line.text(" at ");
     line.decimal(place as u64);
     line.text(" missing ");
-    line.text(attribute_name(attribute));
+    line.text(attribute);
     line.octet(b'\n');
     line
 }

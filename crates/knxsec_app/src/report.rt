@@ -13,7 +13,7 @@ use crate::Status;
 use crate::ending::ended;
 use crate::page::Page;
 use crate::part::{Part, pass};
-use crate::refusing::{line_at, refuse};
+use crate::refusing::{frames_line, refuse};
 use audit_core::{Audit, Line, print_line};
 use frame_file::RecordFault;
 use knx_base::{Failed, LineBuf, Sink};
@@ -75,7 +75,7 @@ fn total_status(audit: &Audit) -> Status
     }
 }
 
-/// Hands on what waits, and ends the report with the refusal of the list of frames, or where its reader stopped.
+/// Hands on what waits, and ends the report with the refusal of the records, or where their reader stopped.
 pub(crate) fn finish_frames<S: Sink>(fault: &RecordFault, page: &mut Page, out: &mut S) -> Status
     ensures answer { EndsList fault.now page.old.held result (S.octets out.old) (S.octets out.new) }
     ensures read_fault { result ≡ Status.ReadFault → fault.now ≡ RecordFault.ReadFault }
@@ -87,15 +87,9 @@ pub(crate) fn finish_frames<S: Sink>(fault: &RecordFault, page: &mut Page, out: 
     ensures not_whole { IsWhole result → ⊥ }
 {
     match fault {
-        RecordFault::Line(line, cause) => {
-            finish_refused(&line_at("frames", *line, cause.word()), page, out)
-        }
-        RecordFault::LongLine(line) => {
-            finish_refused(&line_at("frames", *line, "long"), page, out)
-        }
-        RecordFault::TooMany(line) => finish_refused(&line_at("frames", *line, "many"), page, out),
         RecordFault::ReadFault => stop_unread(page, out),
         RecordFault::NoMemory => stop_without_memory(page, out),
+        fault => finish_refused(&frames_line(fault), page, out),
     }
 }
 

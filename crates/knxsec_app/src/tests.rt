@@ -7,6 +7,7 @@ use std::test::Fail;
 mod audits;
 mod faults;
 mod keyrings;
+mod logs;
 mod replays;
 
 const KEY: &str = "000102030405060708090a0b0c0d0e0f";

@@ -62,7 +62,7 @@ pub(super) fn audit_words(alloc: Global) -> Result<Vec<String>, NoMemory>
 }
 
 // What an audit of these files prints, where the call on them with this number fails, and its status.
-fn audited(
+pub(super) fn audited(
     alloc: Global,
     tables: &str,
     frames: &str,
@@ -70,13 +70,24 @@ fn audited(
 ) -> Result<(MemSink, Status), Fail>
     requires numbered { (1 ≤ failing) × (failing ≤ 1000000) }
 {
-    if tables.len() > 1000 || frames.len() > 20_000 {
+    audited_octets(alloc, tables, frames.as_bytes(), failing)
+}
+
+pub(super) fn audited_octets(
+    alloc: Global,
+    tables: &str,
+    frames: &[u8],
+    failing: u64,
+) -> Result<(MemSink, Status), Fail>
+    requires numbered { (1 ≤ failing) × (failing ≤ 1000000) }
+{
+    if tables.len() > 1000 || frames.len() > 20_000_000 {
         return Err(Fail::from("a short text"));
     }
     let words = audit_words(alloc)?;
     let mut files = MemFiles::new(alloc);
     files.add("tables", tables.as_bytes())?;
-    files.add("frames", frames.as_bytes())?;
+    files.add("frames", frames)?;
     files.fail_at(failing)?;
     let mut out = MemSink::new(alloc, 30_000)?;
     let status = run(alloc, &words, &mut files, &mut out, &mut None);

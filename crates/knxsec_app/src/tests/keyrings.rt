@@ -63,7 +63,7 @@ pub(super) const REPORT: &str = "1 1.1.10 > 1/0/1 accepted number 1 GroupValue_W
 
 /// The tables, the recording and the report of the folder `examples`: its telegrams were sealed by another program, and
 /// its report was written by the rules.
-const HOUSE_TABLES: &str = r#"# What the keyring does not say, or says too widely.
+pub(super) const HOUSE_TABLES: &str = r#"# What the keyring does not say, or says too widely.
 # 1/0/1 switches lamps: its telegrams have to be encrypted.
 group 1/0/1 01010101010101010101010101010101 conf
 # 1/0/4 is written by the gateway 1.1.20 alone; the sensor 1.1.30 may read it.

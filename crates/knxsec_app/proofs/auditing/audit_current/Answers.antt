@@ -4,7 +4,7 @@ use Rattle.text_lines.proofs.Readers.{goes_then, takes_less}
 use Rattle.knxsec_app.specs.Answer.{Answers}
 use Rattle.frame_file.specs.Records.{records_of}
 use Rattle.knxsec_app.specs.Auditing.{frames_answer}
-use Rattle.knxsec_app.proofs.SoFar.{goes_on, wants_memory, stops_at_line, finishes, refuses, reads_to_end, some_given, none_given, fault_given, gives_told, first_left}
+use Rattle.knxsec_app.proofs.SoFar.{goes_on, wants_memory, stops_at_line, finishes, refuses, reads_to_end, some_given, none_given, fault_given, gives_told, first_left, few_given}
 use Rattle.knxsec_app.proofs.auditing.audit_current.Goals as goal
 
 pub records-preserved : goal.records-preserved
@@ -16,16 +16,16 @@ records-preserved g c =
     let given = some_given now later _ _ c.next.result c.in-Ok-Some.field-0 c.in-Ok-Some.record c.in-Ok-Some.is
     c.in-Ok-Some.field-0-is c.next.follows.holds-at-none in
     record {
-      no_fault = given.0.still_none;
-      at = given.0.gives.at;
-      goes = goes_then start now later _ _ _ 0 0 before.goes (takes_less now later _ _ _ 1 0 (omega (arith))
-          given.0.gives.goes);
-      counted = c.in-Ok-frame.ensures.counted ∙ ap (λ n. n + 1) before.counted ∙ sym given.0.gives.counted;
-      few = given.0.gives.few;
-      so_far = goes_on start now later _ _ _ _ _ _ _ _ _ _ _ _ c.in-Ok-Some.record.time c.in-Ok-frame.line before.so_far
-          before.goes (first_left now later _ _ _ _ given.0)
+      no_fault = given.still_none;
+      at = given.gives.at;
+      goes = goes_then start now later _ _ _ 0 0 before.goes (takes_less now later _ _ _ _ 0 (omega (arith))
+          given.gives.goes);
+      counted = c.in-Ok-frame.ensures.counted ∙ ap (λ n. n + 1) before.counted ∙ sym given.gives.counted;
+      few = omega (arith, given.gives.few, few_given c.next.follows.lender-at-none.reader.stage);
+      so_far = goes_on start now later _ _ _ _ _ _ _ _ _ _ _ _ c.in-Ok-frame.line before.so_far before.goes
+          (first_left now later _ _ _ _ given)
           (λ past knows. (c.in-Ok-frame.ensures.line past knows, c.in-Ok-frame.ensures.knows past knows))
-          c.frame.ensures.rows c.in-Ok-frame.ensures.opened given.1 c.in-Ok-pass_line.ensures.text;
+          c.frame.ensures.rows c.in-Ok-frame.ensures.opened c.in-Ok-pass_line.ensures.text;
       kept = search rules;
     }
 
@@ -42,9 +42,9 @@ returns-in_default-pass_line-clause-answer g c =
     let given = some_given now later _ _ c.next.result c.in-Ok-Some.field-0 c.in-Ok-Some.record c.in-Ok-Some.is
     c.in-Ok-Some.field-0-is c.next.follows.holds-at-none in
     stops_at_line (g.F.Files.seen c.args.files.now) now later _ _ _ _ c.next.follows.lender-at-none.reader _ _ _ _ _ _
-    c.in-Ok-Some.record.time c.in-Ok-frame.line before.so_far before.goes (first_left now later _ _ _ _ given.0)
+    c.in-Ok-frame.line before.so_far before.goes (first_left now later _ _ _ _ given)
     (λ past knows. (c.in-Ok-frame.ensures.line past knows, c.in-Ok-frame.ensures.knows past knows))
-    c.in-Ok-frame.ensures.opened given.1 c.in_default-pass_line.ensures.text
+    c.in-Ok-frame.ensures.opened c.in_default-pass_line.ensures.text
 
 pub returns-in-Ok-None-clause-answer : goal.returns-in-Ok-None-clause-answer
 returns-in-Ok-None-clause-answer g c =

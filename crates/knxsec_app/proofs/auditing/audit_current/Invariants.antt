@@ -1,5 +1,6 @@
-use Rattle.std.proofs.Common.{◌≡◌, ◌≤◌, [], None}
-use Rattle.text_lines.specs.Reading.{GoesOn, to_come}
+use Rattle.std.proofs.Common.{◌≡◌, ◌≤◌, ◌-◌, [], None}
+use Rattle.text_lines.specs.Reading.{GoesOn}
+use Rattle.frame_file.specs.Logs.{most_logged}
 use Rattle.frame_file.specs.Reader.{IsAt}
 use Rattle.knxsec_app.proofs.SoFar.{SoFar}
 use Rattle.knxsec_app.proofs.auditing.audit_current.Given as goal
@@ -10,11 +11,11 @@ invariant-records g l = record {
   at : IsAt (g.F.Files.seen l.files) l.records.reader;
   goes : GoesOn (g.F.Files.seen l.fn.files) (g.F.Files.seen l.files) [] l.records.reader.held 0;
   counted : l.audit.total.records ≡ l.records.reader.given;
-  few : l.records.reader.given ≤ 10000000;
+  few : l.records.reader.given ≤ most_logged;
   so_far : SoFar (g.F.Files.seen l.fn.files) (g.F.Files.seen l.files) l.fn.tables l.audit l.records.reader l.page.held
       (g.S.Sink.octets l.fn.out) (g.S.Sink.octets l.out);
   kept : g.S.Sink.faults l.out ≡ g.S.Sink.faults l.fn.out;
 }
 
 abbrev pub decreases-records : goal.decreases-records
-decreases-records g l = to_come (g.F.Files.seen l.files) l.records.reader.held
+decreases-records g l = most_logged - l.records.reader.given
