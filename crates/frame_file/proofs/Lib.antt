@@ -12,3 +12,4 @@ mod RestLemmas
 mod BeginLemmas
 mod LoggedLemmas
 mod CountLemmas
+mod ListLemmas

@@ -1,6 +1,7 @@
 -- Which records a file has. In a list of frames each line that is not skipped is one word, the octets of a record in
 -- hexadecimal; in a recorded log each element named Telegram is a record.
-use Rattle.std.specs.Prelude.{ℕ, ◌+◌, nat_lt, Bool, true, false, if◌then◌else◌, List, [], ◌∷◌, Option, Some, None, Result, Ok, Err}
+use Rattle.std.specs.Prelude.{◌≡◌, ℕ, ◌+◌, nat_lt, Bool, true, false, if◌then◌else◌, List, [], ◌∷◌, ◌++◌, length, map, Option, Some, None, IsSome, Result, Ok, Err}
+use Rattle.std.specs.List.{filter_map}
 use Rattle.std.specs.Str.Lines.{lines}
 use Rattle.hex.specs.Hex.{decode_of}
 use Rattle.hex.specs.declared.error.FromHexError.{FromHexError}
@@ -71,6 +72,47 @@ records_from lines_before before (line ∷ rest) =
 -- the list of a list of frames with these octets
 abbrev pub listed_in : List ℕ → RecordList
 listed_in octets = records_from 0 0 (lines octets)
+
+-- ---- the same, said of all lines at once
+
+abbrev pub octets_said : Result (Option (List ℕ)) Cause → Option (List ℕ)
+octets_said (Ok said) = said
+octets_said (Err fault) = None
+
+-- the octets of the records that lines say
+abbrev pub said_in : List (List ℕ) → List (List ℕ)
+said_in lines = filter_map (λ line. octets_said (record_of line)) lines
+
+-- why the line of this number, which says this, may not stand after so many records
+abbrev pub refusal : ℕ → ℕ → Result (Option (List ℕ)) Cause → Option RecordFault
+refusal number before (Err fault) = Some (refusal_of number fault)
+refusal number before (Ok None) = None
+refusal number before (Ok (Some octets)) = if nat_lt before most_records then None else Some (TooMany number)
+
+-- why a line may not stand right after these
+abbrev pub refusal_after : List (List ℕ) → List ℕ → Option RecordFault
+refusal_after before line = refusal (length before + 1) (length (said_in before)) (record_of line)
+
+-- each of these lines may stand after those before it
+abbrev pub Stand : List (List ℕ) → List (List ℕ) → Type 0
+Stand before [] = Unit {0}
+Stand before (line ∷ lines) = (refusal_after before line ≡ None) × Stand (before ++ line ∷ []) lines
+
+-- where a line is left, it is refused right after these
+abbrev pub IsRefusedAfter : List (List ℕ) → List (List ℕ) → Option RecordFault → Type 0
+IsRefusedAfter before [] refused = refused ≡ None
+IsRefusedAfter before (line ∷ lines) refused = IsSome refused × (refused ≡ refusal_after before line)
+
+-- The records are those that the lines before the first refused one say, and its refusal stands behind them.
+pub record IsListOf (lines : List (List ℕ)) (list : RecordList) : Type 0 where
+  pub standing : List (List ℕ)
+  pub left : List (List ℕ)
+  pub lines_are : lines ≡ standing ++ left
+  pub stand : Stand [] standing
+  pub records_are : list.records ≡ map untimed (said_in standing)
+  pub refused_is : IsRefusedAfter standing left list.refused
+
+-- ---- of either kind
 
 -- the list of a file with these octets
 unfoldable pub records_of : List ℕ → RecordList

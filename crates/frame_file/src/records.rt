@@ -38,13 +38,16 @@ impl Model for Records {
 }
 
 impl Records {
-    ghost use Rattle.std.specs.Prelude.{◌≡◌, ◌≢◌, ◌≤◌, [], None, Err, IfOk};
+    ghost use Rattle.std.specs.Prelude.{◌≡◌, ◌≢◌, ◌≤◌, ℕ, List, [], None, Err, IfOk};
     ghost use Rattle.std.specs.Borrow.{sem};
+    ghost use Rattle.std.specs.Str.Lines.{lines};
     ghost use Rattle.frame_file.specs.Lists.{untimed};
     ghost use Rattle.frame_file.specs.Next.{IsReading, Goes};
+    ghost use Rattle.frame_file.specs.Records.{IsListOf, listed_in};
     ghost use Rattle.frame_file.specs.Given.{Gives, EndsSo};
 
     /// Ready for a file that was opened and of which nothing was read.
+    #[tactic(auto, using(crate::proofs::ListLemmas::is_list))]
     pub fn new(alloc: Global) -> Result<Records, NoMemory>
         ensures start { IfOk result (λ records. records ≡ record {
           reader = record {
@@ -56,6 +59,7 @@ impl Records {
           };
           fault = None;
         }) }
+        ensures lists { (octets : List ℕ) → IsListOf (lines octets) (listed_in octets) }
     {
         Ok(Records {
             alloc,
