@@ -1,6 +1,7 @@
 -- The numbers of a taken answer are those of the reply: by the cases of both steps, and the way of the octets between.
 use Rattle.std.proofs.Common.{◌≡◌, inl, inr, ℕ, suc, ◌+◌, ◌-◌, ◌<◌, List, [], ◌∷◌, ◌++◌, length, Bool, true, false, Option, Some, None, refl, sym, ap, ◌∙◌, subst, arith}
 use Rattle.std.specs.Prelude.{◌==◌, ◌^◌, option_map, if◌then◌else◌, IfSome}
+use Rattle.std.specs.List.{All}
 use Rattle.std.proofs.lemmas.Bool.Decides.{nat_tests}
 use Rattle.std.proofs.lemmas.List.{length-map}
 use Rattle.std.proofs.lemmas.List.Elements.{All-nil, All-cons}
@@ -19,7 +20,8 @@ use Rattle.judge_rules.specs.declared.verdict.Verdict.TheVariants as verdict
 use Rattle.judge_rules.specs.Parts.{is_group, source_of}
 use Rattle.judge_rules.specs.Checks.{lane_in, verdict_of, kept_by, opened_by}
 use Rattle.sync_service.specs.Frames.{answer_frame}
-use Rattle.sync_service.specs.Open.{asked_of}
+use Rattle.sync_service.specs.Open.{Pending, asked_of}
+use Rattle.sync_service.specs.declared.pending.OpenChallenge.{OpenChallenge}
 use Rattle.exchange_law.specs.Exchange.{IsBetween, OrSender, IsUnder}
 use Rattle.exchange_law.proofs.Exchanges.{channel_between, are_between}
 use Rattle.exchange_law.proofs.Shown.{answer_is_judged}
@@ -33,9 +35,13 @@ use Rattle.node_core.specs.declared.outcome.Addressee.TheVariants.{Device, Objec
 use Rattle.node_core.specs.declared.outcome.Outcome.{Outcome}
 use Rattle.node_core.specs.declared.outcome.Outcome.TheVariants as received
 use Rattle.node_core.specs.Node.{handed}
-use Rattle.node_core.specs.Standing.{ConfigState, Standing, raised, place_in, mark_at}
+use Rattle.node_core.specs.Config.{configured}
+use Rattle.node_core.specs.Standing.{ConfigState, Standing, raised, place_in, mark_at, started}
 use Rattle.node_core.specs.Receiving.{addressee, kept_raises, verdict_transition, telegram_transition, addressed_transition, frame_transition, receive_transition}
+use Rattle.script_text.specs.Parts.{IsChallenge}
+use Rattle.script_text.specs.Script.{IsEvent}
 use Rattle.script_text.specs.declared.event.Event.{Event}
+use Rattle.script_text.specs.declared.event.Event.TheVariants as event
 use Rattle.script_text.specs.declared.node_row.NodeRow.{NodeRow}
 use Rattle.step_text.specs.declared.outcome.Step.{Step}
 use Rattle.step_text.specs.declared.outcome.StepOutcome.{StepOutcome}
@@ -44,7 +50,8 @@ use Rattle.install_run.specs.Turn.{NodeAt, Turn, struck_by, turn_by, receive_tol
 use Rattle.install_run.specs.Machine.{WorldAt, put_on_air, telegrams_of, has_telegram, telegram_in, heard, node_in}
 use Rattle.install_run.specs.Runs.{place_of, is_at, after, step_of, world_after, history_of}
 use Rattle.install_run.specs.Calls.{deliver_call}
-use Rattle.install_run.specs.First.{first_node, first_world}
+use Rattle.install_run.specs.First.{first_numbers, first_node, first_world}
+use Rattle.install_run.specs.Following.{asked_after}
 use Rattle.install_run.specs.Histories.{Draw, draws, outcomes_of, next_after, reserved_after}
 use Rattle.install_run.specs.Journals.{mark_on}
 use Rattle.install_run.specs.Origin.{IsInstallation, HoldsAfter, AreHeld, IsRunOf, events_of}
@@ -52,6 +59,7 @@ use Rattle.install_run.specs.Sealed.{next_of}
 use Rattle.install_run.specs.Synchronising.{answered_in, taken_in, kept_told, AreAbove, PassesAbove, IsReply}
 use Rattle.install_run.specs.Exchanged.{Exchange, answering, taking, events_after, events_from, answered, waiting, taken, from_address, to_address, IsExchanged, TellsTheSame, EndsTellTheSame}
 use Rattle.install_run.proofs.Fitted.{max_fits, marks_fit}
+use Rattle.install_run.proofs.Following.{HasOpen, open_after}
 use Rattle.install_run.proofs.Lasting.{HasOctets, put_there, lasts, heard_is}
 use Rattle.install_run.proofs.Legality.{in_range}
 use Rattle.install_run.proofs.Marking.{AllStand, stands_after}
@@ -251,23 +259,55 @@ is_device c t to device is =
 
 -- ---- the nodes of an installation between two steps
 
+-- the open challenge, if there is one, is six octets
+abbrev IsOpen : Pending → Type 0
+IsOpen pending = IfSome pending (λ (asked : OpenChallenge). IsChallenge asked.challenge)
+
+still_open : (count : ℕ) (e : Event) (said : StepOutcome) (pending : Pending) → IsEvent count e → IsOpen pending
+    → IsOpen (asked_after e said pending)
+still_open count (event.Ask node to challenge) (outcome.Air telegram number) pending range is = range.1
+still_open count e (outcome.Air telegram number) pending range is = is
+still_open count e (outcome.Synced number kept next) pending range is = tt
+still_open count e (outcome.On next marks) pending range is = tt
+still_open count e said pending range is = is
+
+open_if : (here : Bool) (count : ℕ) (e : Event) (said : StepOutcome) (pending : Pending) → IsEvent count e
+    → IsOpen pending → IsOpen (if here then asked_after e said pending else pending)
+open_if true count e said pending range is = still_open count e said pending range is
+open_if false count e said pending range is = is
+
+asked_if : (same : Bool) (asked challenge : List ℕ) → IsChallenge asked
+    → (if same then Some asked else None) ≡ Some challenge → IsChallenge challenge
+asked_if true asked challenge is found = subst IsChallenge (some_same asked challenge found) is
+asked_if false asked challenge is found = elim (none-some challenge found) [ ]
+
+challenge_asked : (pending : Pending) (source : IndAddr) (challenge : List ℕ) → IsOpen pending
+    → asked_of pending source ≡ Some challenge → IsChallenge challenge
+challenge_asked None source challenge is found = elim (none-some challenge found) [ ]
+challenge_asked (Some last) source challenge is found =
+    asked_if (last.peer.0 == source.0) last.challenge challenge is found
+
 record Sits (rows : List Row) (n : NodeAt) : Type 0 where
   rows_are : n.config.rows ≡ rows
   stand : AllStand n
   floor : ℕ
   fits : FitsFrom n floor
+  pending : Pending
+  pending_is : HasOpen n pending
+  is_open : IsOpen pending
 
 abbrev AllSit : List Row → WorldAt → Type 0
 AllSit rows w = (place : ℕ) → place < length w.nodes → Sits rows (node_in w place)
 
 -- before these events
-record Later (rows : List Row) (events : List Event) (w : WorldAt) : Type 0 where
+record Later (rows : List Row) (count : ℕ) (events : List Event) (w : WorldAt) : Type 0 where
   held : AreHeld events w
+  ranges : All (IsEvent count) events
   sit : AllSit rows w
 
-module _ (rows : List Row) where
-  sits_after : (e : Event) (w : WorldAt) → HoldsAfter e w → AllSit rows w → AllSit rows (after e w)
-  sits_after e w held all place below' =
+module _ (rows : List Row) (count : ℕ) where
+  sits_after : (e : Event) (w : WorldAt) → IsEvent count e → HoldsAfter e w → AllSit rows w → AllSit rows (after e w)
+  sits_after e w range held all place below' =
       let same = same_size e w in
       let below : place < length w.nodes = omega (arith, below', same) in
       let at = all place below in
@@ -277,12 +317,17 @@ module _ (rows : List Row) where
         stand = stands_after e w place (is_at place (place_of e)) refl held at.stand;
         floor = p.floor';
         fits = p.fits;
+        pending = if is_at place (place_of e) then asked_after e (step_of e w).outcome at.pending else at.pending;
+        pending_is = open_after e w place at.pending below at.stand at.pending_is;
+        is_open = open_if (is_at place (place_of e)) count e (step_of e w).outcome at.pending range at.is_open;
       }
 
-  all_later : (events rest : List Event) (w : WorldAt) → AreHeld (events ++ rest) w → AllSit rows w
-      → Later rows rest (world_after events w)
-  all_later [] rest w held sit = record { held = held; sit = sit }
-  all_later (e ∷ events) rest w held sit = all_later events rest (after e w) held.1 (sits_after e w held.0 sit)
+  all_later : (events rest : List Event) (w : WorldAt) → AreHeld (events ++ rest) w
+      → All (IsEvent count) (events ++ rest) → AllSit rows w → Later rows count rest (world_after events w)
+  all_later [] rest w held ranges sit = record { held = held; ranges = ranges; sit = sit }
+  all_later (e ∷ events) rest w held ranges sit =
+      all_later events rest (after e w) held.1 (λ i d below. ranges (suc i) d (omega (arith, below)))
+      (sits_after e w (ranges 0 e (omega arith)) held.0 sit)
 
 sits_first : (rows : List Row) (nodes : List NodeRow) → IsInstallation rows nodes
     → AllSit rows (first_world rows nodes)
@@ -297,6 +342,11 @@ sits_first rows nodes installation place below =
             stand = λ s now. (first.fits.runs s now).stands;
             floor = 0;
             fits = record { reserved = row.next - 1; next = row.next; fits = first.fits };
+            pending = None;
+            pending_is = λ s now. ap (λ (s : Standing). s.pending)
+                (some_same s (started (configured row.address rows row.objects) (first_numbers row))
+                (sym now ∙ ap (λ (n : NodeAt). n.standing) first.node_is));
+            is_open = tt;
           }
       | inr past ↦ let past = past.0 in absurd (omega (arith, below, same, past))
     ]
@@ -328,7 +378,8 @@ any_reserved number reserved other next (said ∷ later) above =
 
 -- ---- both ends
 
-module _ (rows : List Row) (x : Exchange) (l : Later rows (events_from x) x.first) (is : IsExchanged x) where
+module _ (rows : List Row) (count : ℕ) (x : Exchange) (l : Later rows count (events_from x) x.first)
+    (is : IsExchanged x) where
   abbrev n : NodeAt
   n = node_in x.first x.responder
 
@@ -375,9 +426,10 @@ module _ (rows : List Row) (x : Exchange) (l : Later rows (events_from x) x.firs
       (mark_fits reply.lane))
 
   -- at the requester
-  l' : Later rows (taking x ∷ x.later) (waiting x)
-  l' = all_later rows x.between (taking x ∷ x.later) (answered x) l.held.1
-      (sits_after rows (answering x) x.first l.held.0 l.sit)
+  l' : Later rows count (taking x ∷ x.later) (waiting x)
+  l' = all_later rows count x.between (taking x ∷ x.later) (answered x) l.held.1
+      (λ i d below. l.ranges (suc i) d (omega (arith, below)))
+      (sits_after rows count (answering x) x.first (l.ranges 0 (answering x) (omega arith)) l.held.0 l.sit)
 
   abbrev m : NodeAt
   m = node_in (waiting x) x.requester
@@ -435,10 +487,14 @@ module _ (rows : List Row) (x : Exchange) (l : Later rows (events_from x) x.firs
   asked : asked_of is.standing.pending (source_of (frame_at frame)) ≡ Some x.challenge
   asked = ap (asked_of is.standing.pending) between.source_is ∙ is.asked
 
+  challenge_is : IsChallenge x.challenge
+  challenge_is = challenge_asked is.standing.pending (from_address x) x.challenge
+      (subst IsOpen (sym (at'.pending_is is.standing is.runs)) at'.is_open) is.asked
+
   judged : OrSender (verdict.SyncAnswer reply.before.next reply.kept)
       (verdict_of m.config.rows takes_it.mark (Some x.challenge) (frame_at frame))
   judged = answer_is_judged reply.key (from_address x) source reply.before.next x.challenge reply.kept number_fits
-      kept_fits is.six is.octets m.config.rows takes_it.mark under
+      kept_fits challenge_is.six challenge_is.octets m.config.rows takes_it.mark under
 
   both : ◌≡◌ {A = ℕ × ℕ} (x.number, x.kept) (reply.before.next, reply.kept)
   both = same_numbers (verdict_of m.config.rows takes_it.mark (Some x.challenge) (frame_at frame)) x.number x.kept
@@ -517,10 +573,12 @@ module _ (rows : List Row) (x : Exchange) (l : Later rows (events_from x) x.firs
 
 pub ends_agree : (rows : List Row) (nodes : List NodeRow) (w : WorldAt) (history : List Step)
     → IsRunOf rows nodes w history → AreHeld (events_of history) (first_world rows nodes)
-    → EndsTellTheSame (events_of history) (first_world rows nodes)
-ends_agree rows nodes w history run held before x split start is =
+    → All (IsEvent (length nodes)) (events_of history) → EndsTellTheSame (events_of history) (first_world rows nodes)
+ends_agree rows nodes w history run held ranges before x split start is =
     let first : WorldAt = first_world rows nodes in
+    let count : ℕ = length nodes in
     let all : AreHeld (before ++ events_from x) first = subst (λ es. AreHeld es first) (sym split) held in
-    let l : Later rows (events_from x) (world_after before first) =
-    all_later rows before (events_from x) first all (sits_first rows nodes run.installation) in
-    tells_the_same rows x (subst (Later rows (events_from x)) (sym start) l) is
+    let l : Later rows count (events_from x) (world_after before first) =
+    all_later rows count before (events_from x) first all (subst (All (IsEvent count)) (sym split) ranges)
+    (sits_first rows nodes run.installation) in
+    tells_the_same rows count x (subst (Later rows count (events_from x)) (sym start) l) is

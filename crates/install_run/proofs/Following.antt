@@ -308,11 +308,25 @@ call_open (event.On node) air c s = refl
 call_open (event.Cut node write torn) air c s = refl
 call_open (event.Fault node write torn) air c s = refl
 
+pending_told : IsTold (λ s. s.pending) asked_after
+pending_told = record {
+  calls = λ e air n s stands. call_open e air n.config s;
+  starts = λ e c found x. refl;
+}
+
+-- the challenge that a node has open, if it runs
+abbrev pub HasOpen : NodeAt → Pending → Type 0
+HasOpen n pending = (s : Standing) → n.standing ≡ Some s → s.pending ≡ pending
+
+pub open_after : (e : Event) (w : WorldAt) (place : ℕ) (pending : Pending) → place < length w.nodes
+    → AllStand (node_in w place) → HasOpen (node_in w place) pending
+    → HasOpen (node_in (after e w) place)
+    (if is_at place (place_of e) then asked_after e (step_of e w).outcome pending else pending)
+open_after e w place pending below stand has =
+    has_at (λ s. s.pending) asked_after pending_told e w place pending (is_at place (place_of e)) refl below stand has
+
 pub asks_once : (rows : List Row) (nodes : List NodeRow) (w : WorldAt) (history : List Step) (place : ℕ) (row : NodeRow)
     → IsRunOf rows nodes w history → AreHeld (events_of history) (first_world rows nodes)
     → slice_get nodes place ≡ Some row → AsksOnce place w history
 asks_once rows nodes w history place row run held is =
-    has_last (λ s. s.pending) asked_after (record {
-      calls = λ e air n s stands. call_open e air n.config s;
-      starts = λ e c found x. refl;
-    }) rows nodes w history place row run held is
+    has_last (λ s. s.pending) asked_after pending_told rows nodes w history place row run held is

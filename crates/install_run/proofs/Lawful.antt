@@ -54,6 +54,6 @@ goes_by_rules rows nodes places air history w run is =
       synchronises = record {
         each = λ place row at.
             synchronises rows nodes (world_in places air) history place row run.run run.held at;
-        ends = ends_agree rows nodes (world_in places air) history run.run run.held;
+        ends = ends_agree rows nodes (world_in places air) history run.run run.held run.ranges;
       };
     })

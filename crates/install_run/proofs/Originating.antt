@@ -1,11 +1,13 @@
 -- A world comes of its script, and its memories hold their nodes' numbers: at first, and after each step.
 use Rattle.std.proofs.Common.{◌≡◌, ℕ, List, [], ◌∷◌, ◌++◌, length, map, sym, ap, ◌∙◌, subst}
+use Rattle.std.specs.List.{All}
 use Rattle.std.proofs.lemmas.List.{length-map, map-append}
+use Rattle.std.proofs.lemmas.List.Elements.{All-nil, All-cons, All-append}
 use Rattle.std.proofs.Math.ListN.{get_or-map as map-get_or}
 use Rattle.key_tables.specs.declared.types.Row.{Row}
 use Rattle.script_text.specs.declared.event.Event.{Event}
 use Rattle.script_text.specs.declared.node_row.NodeRow.{NodeRow}
-use Rattle.script_text.specs.Script.{IsScript}
+use Rattle.script_text.specs.Script.{IsEvent, IsScript}
 use Rattle.step_text.specs.declared.outcome.Step.{Step}
 use Rattle.step_text.specs.declared.outcome.StepOutcome.{StepOutcome}
 use Rattle.install_run.specs.First.{first_world, first_place}
@@ -14,6 +16,7 @@ use Rattle.install_run.specs.Machine.{TelegramAt, WorldAt, node_in}
 use Rattle.install_run.specs.Origin.{IsInstallation, event_in, events_of, HoldsAfter, AreHeld, IsRun}
 use Rattle.install_run.specs.Place.{PlaceAt, no_place, place_in, node_of, world_in, IsTurned}
 use Rattle.install_run.specs.Runs.{after, step_of, world_after, history_of}
+use Rattle.install_run.specs.World.{WorldState, world_state}
 use Rattle.install_run.proofs.Beginning.{first_nodes, first_stands}
 use Rattle.install_run.proofs.Stepping.{after-more, history-more, stays_world}
 
@@ -43,6 +46,8 @@ first_run rows nodes places air history installation places_are no_air no_steps 
         history_is = no_steps ∙ ap (λ h. history_of (events_of h) (first_world rows nodes)) (sym no_steps);
       };
       held = subst (λ h. AreHeld (events_of h) (first_world rows nodes)) (sym no_steps) tt;
+      ranges = subst (λ h. All (IsEvent (length nodes)) (events_of h)) (sym no_steps)
+          (All-nil (IsEvent (length nodes)));
     }
 
 -- ---- a step
@@ -70,9 +75,9 @@ more_events history e said = map-append event_in history (record { event = e; ou
 
 pub run_step : (rows : List Row) (nodes : List NodeRow) (e : Event) (places new : List PlaceAt)
     (air air' : List TelegramAt) (history : List Step) (said : StepOutcome)
-    → IsRun rows nodes places air history → IsTurned e places air said new air'
+    → IsRun rows nodes places air history → IsEvent (length places) e → IsTurned e places air said new air'
     → IsRun rows nodes new air' (history ++ record { event = e; outcome = said } ∷ [])
-run_step rows nodes e places new air air' history said before turned =
+run_step rows nodes e places new air air' history said before range turned =
     let first : WorldAt = first_world rows nodes in
     let events : List Event = events_of history in
     let step : Step = record { event = e; outcome = said } in
@@ -96,21 +101,34 @@ run_step rows nodes e places new air air' history said before turned =
       held = subst (λ es. AreHeld es first) (sym all_is)
           (held_more events e first before.held
           (subst (HoldsAfter e) now_is (holds_here e places new air air' said turned)));
+      ranges = subst (All (IsEvent (length nodes))) (sym all_is)
+          (All-append (IsEvent (length nodes)) events (e ∷ []) before.ranges
+          (All-cons (IsEvent (length nodes)) e [] (subst (λ count. IsEvent count e) before.size range)
+          (All-nil (IsEvent (length nodes)))));
     }
+
+-- an event of a node that the world has is of one of its places
+pub of_places : (rows : List Row) (nodes : List NodeRow) (places : List PlaceAt) (air : List TelegramAt)
+    (history : List Step) (w : WorldState) (e : Event) → world_state rows nodes places air history ≡ w
+    → IsEvent (length w.world.nodes) e → IsEvent (length places) e
+of_places rows nodes places air history w e is range =
+    subst (λ count. IsEvent count e) (length-map places node_of)
+    (subst (λ (w : WorldState). IsEvent (length w.world.nodes) e) (sym is) range)
 
 -- the same over what the code has at hand
 pub run_is : (rows : List Row) (nodes : List NodeRow) (e : Event) (places seen new back : List PlaceAt)
     (air seen_air air' : List TelegramAt)
     (history seen_history history' : List Step) (said : StepOutcome)
-    → IsRun rows nodes places air history → seen ≡ places → seen_air ≡ air → seen_history ≡ history
-    → IsTurned e seen seen_air said new air' → back ≡ new
+    → IsRun rows nodes places air history → IsEvent (length places) e → seen ≡ places → seen_air ≡ air
+    → seen_history ≡ history → IsTurned e seen seen_air said new air' → back ≡ new
     → history' ≡ seen_history ++ record { event = e; outcome = said } ∷ [] → IsRun rows nodes back air' history'
-run_is rows nodes e places seen new back air seen_air air' history seen_history history' said before places_is air_is
-    history_is turned back_is noted =
+run_is rows nodes e places seen new back air seen_air air' history seen_history history' said before range places_is
+    air_is history_is turned back_is noted =
     let now : IsRun rows nodes seen seen_air seen_history
     = subst (λ h. IsRun rows nodes seen seen_air h) (sym history_is)
     (subst (λ a. IsRun rows nodes seen a history) (sym air_is)
     (subst (λ p. IsRun rows nodes p air history) (sym places_is) before)) in
     subst (λ h. IsRun rows nodes back air' h) (sym noted)
     (subst (λ p. IsRun rows nodes p air' (seen_history ++ record { event = e; outcome = said } ∷ [])) (sym back_is)
-    (run_step rows nodes e seen new seen_air air' seen_history said now turned))
+    (run_step rows nodes e seen new seen_air air' seen_history said now
+    (subst (λ p. IsEvent (length p) e) (sym places_is) range) turned))

@@ -14,10 +14,11 @@ use Rattle.knx_ccm.specs.Sealing.{counter_0}
 use Rattle.knx_ccm.specs.declared.head.Head.{Head}
 use Rattle.key_tables.specs.declared.types.Row.{Row}
 use Rattle.secure_apdu.specs.SealedFrame.{sealed_head}
+use Rattle.secure_apdu.specs.declared.sealing.SendHead.{SendHead}
 use Rattle.seq_store.specs.Draws.{reservation_for}
 use Rattle.node_core.specs.Node.{handed}
 use Rattle.node_core.specs.Standing.{ConfigState}
-use Rattle.script_text.specs.Script.{AreTwoNodes}
+use Rattle.script_text.specs.Script.{AreTwoNodes, IsNode}
 use Rattle.script_text.specs.declared.event.Event.{Event}
 use Rattle.script_text.specs.declared.node_row.NodeRow.{NodeRow}
 use Rattle.step_text.specs.declared.outcome.Step.{Step}
@@ -27,7 +28,7 @@ use Rattle.install_run.specs.Histories.{Draw, next_after, reserved_after}
 use Rattle.install_run.specs.Machine.{TelegramAt, WorldAt, WorldTurn, put_on_air, telegrams_of, has_telegram, node_in}
 use Rattle.install_run.specs.Origin.{IsInstallation, IsRunOf, HoldsAfter, AreHeld, events_of}
 use Rattle.install_run.specs.Runs.{place_of, is_at, after, step_of}
-use Rattle.install_run.specs.Sealed.{SealedAt, next_of, telegram_of, sealed_in, all_sealed, IsSealed, HaveTwoBlocks, HaveBlocksOfTheirOwn}
+use Rattle.install_run.specs.Sealed.{SealedAt, next_of, telegram_of, sealed_in, all_sealed, IsHeadOf, IsSealed, HaveTwoBlocks, HaveBlocksOfTheirOwn}
 use Rattle.install_run.specs.Turn.{NodeAt, Turn}
 use Rattle.install_run.proofs.Drawing.{call_draws}
 use Rattle.install_run.proofs.Framing.{IsFrameFrom, turn_seals}
@@ -303,7 +304,17 @@ source_of_block : (h : Head) → h.source < 2 ^ 16
 unfolding octets_of
 source_of_block h fits = omega arith
 
-module _ (nodes : List NodeRow) (once : AllPairs AreTwoNodes nodes) where
+module _ (rows : List Row) (nodes : List NodeRow) (installation : IsInstallation rows nodes) where
+  abbrev once : AllPairs AreTwoNodes nodes
+  once = installation.nodes_once
+
+  source_fits : (t : SealedAt) (head : SendHead) → IsHeadOf nodes t head → head.source.0 < 2 ^ 16
+  source_fits t head is =
+      let stands : IsNode rows is.row =
+      subst (IsNode rows) (get_or_from_slice_get nodes t.place is.row is.row is.row_is)
+      (installation.nodes_stand t.place is.row (slice_get_within nodes t.place is.row is.row_is)) in
+      subst (λ (a : IndAddr). a.0 < 2 ^ 16) (sym is.source) stands.address_fits
+
   two_before : (p q : ℕ) (row other : NodeRow) → p < q → slice_get nodes p ≡ Some row → slice_get nodes q ≡ Some other
       → AreTwoNodes row other
   two_before p q row other before is is' =
@@ -319,7 +330,7 @@ module _ (nodes : List NodeRow) (once : AllPairs AreTwoNodes nodes) where
   ]
 
   two_blocks : (t u : SealedAt) → Rise t u → HaveTwoBlocks nodes t u
-  two_blocks t u rise of_t of_u at_t at_u fits_t fits_u same = elim (cases_eq t.place u.place) [
+  two_blocks t u rise of_t of_u at_t at_u same = elim (cases_eq t.place u.place) [
     | inl one ↦
         let drawn = rise one in
         let first = at_t.number in
@@ -330,9 +341,9 @@ module _ (nodes : List NodeRow) (once : AllPairs AreTwoNodes nodes) where
         absurd (omega (arith, drawn, first, second, number))
     | inr apart ↦
         let source : of_t.source.0 ≡ of_u.source.0 =
-        sym (source_of_block (sealed_head of_t) fits_t)
+        sym (source_of_block (sealed_head of_t) (source_fits t of_t at_t))
         ∙ ap (λ block. slice_index block 6 * 256 + slice_index block 7) same
-        ∙ source_of_block (sealed_head of_u) fits_u in
+        ∙ source_of_block (sealed_head of_u) (source_fits u of_u at_u) in
         two_rows t.place u.place at_t.row at_u.row apart at_t.row_is at_u.row_is
         (ap (λ (a : IndAddr). a.0) (sym at_t.source) ∙ source ∙ ap (λ (a : IndAddr). a.0) at_u.source)
   ]
@@ -370,6 +381,6 @@ blocks_of_their_own rows nodes w history run held =
       drawn = λ place row. numbers_are_drawn rows nodes w history place row run held;
       sealed = all_are_sealed nodes events first held all;
       blocks = λ i j d before below.
-          two_blocks nodes run.installation.nodes_once (get_or (all_sealed events first) i d)
+          two_blocks rows nodes run.installation (get_or (all_sealed events first) i d)
           (get_or (all_sealed events first) j d) (rise i j d before below);
     }

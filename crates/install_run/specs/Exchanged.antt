@@ -3,9 +3,8 @@
 --
 -- That the challenge which the requester has open is the one of the reply is a premise. Under another one the reply
 -- opens under another number, and that its code of 32 bits does not match then is no theorem.
-use Rattle.std.specs.Prelude.{◌≡◌, ℕ, ◌+◌, List, ◌∷◌, ◌++◌, length, Some}
+use Rattle.std.specs.Prelude.{◌≡◌, ℕ, ◌+◌, List, ◌∷◌, ◌++◌, Some}
 use Rattle.knx_base.specs.declared.address.IndAddr.{IndAddr}
-use Rattle.cemi_frames.specs.Frames.{AreOctets}
 use Rattle.cemi_frames.specs.Reading.{frame_at}
 use Rattle.key_tables.specs.declared.types.Lane.TheVariants as lanes
 use Rattle.judge_rules.specs.Parts.{source_of}
@@ -67,16 +66,13 @@ from_address x = (node_in x.first x.responder).config.address
 abbrev pub to_address : Exchange → IndAddr
 to_address x = (node_in (waiting x) x.requester).config.address
 
--- So it comes, while the requester has this challenge open for the responder. A challenge has six octets, as each of
--- the code has.
+-- So it comes, while the requester has this challenge open for the responder.
 pub record IsExchanged (x : Exchange) : Type 0 where
   pub answers : (step_of (answering x) x.first).outcome ≡ outcome.Answered x.challenge (Some x.telegram)
   pub takes : (step_of (taking x) (waiting x)).outcome ≡ outcome.Synced x.number x.kept x.next
   pub standing : Standing
   pub runs : (node_in (waiting x) x.requester).standing ≡ Some standing
   pub asked : asked_of standing.pending (from_address x) ≡ Some x.challenge
-  pub six : length x.challenge ≡ 6
-  pub octets : AreOctets x.challenge
 
 -- ---- what they tell
 

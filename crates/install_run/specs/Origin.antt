@@ -7,7 +7,7 @@ use Rattle.key_tables.specs.Build.{build_fault}
 use Rattle.key_tables.specs.Lanes.{is_any}
 use Rattle.script_text.specs.declared.event.Event.{Event}
 use Rattle.script_text.specs.declared.node_row.NodeRow.{NodeRow}
-use Rattle.script_text.specs.Script.{IsNode, AreTwoNodes}
+use Rattle.script_text.specs.Script.{IsEvent, IsNode, AreTwoNodes}
 use Rattle.step_text.specs.declared.outcome.Step.{Step}
 use Rattle.install_run.specs.First.{first_world}
 use Rattle.install_run.specs.Holding.{IsHeld}
@@ -54,3 +54,4 @@ pub record IsRun (rows : List Row) (nodes : List NodeRow) (places : List PlaceAt
   pub size : length places ≡ length nodes
   pub run : IsRunOf rows nodes (world_in places air) history
   pub held : AreHeld (events_of history) (first_world rows nodes)
+  pub ranges : All (IsEvent (length nodes)) (events_of history)

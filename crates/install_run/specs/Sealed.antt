@@ -70,12 +70,10 @@ pub record IsSealed (nodes : List NodeRow) (t : SealedAt) : Type 0 where
   pub head_is : IsHeadOf nodes t head
   pub octets_are : t.octets ≡ sealed_frame key head apdu
 
--- No head of the one has the counter block of a head of the other, where both sources have 16 bits, as every address
--- of the code has.
+-- No head of the one has the counter block of a head of the other.
 abbrev pub HaveTwoBlocks : List NodeRow → SealedAt → SealedAt → Type 0
 HaveTwoBlocks nodes t u =
     (of_t of_u : SendHead) → IsHeadOf nodes t of_t → IsHeadOf nodes u of_u
-    → of_t.source.0 < 2 ^ 16 → of_u.source.0 < 2 ^ 16
     → counter_0 (sealed_head of_t) ≢ counter_0 (sealed_head of_u)
 
 -- The numbers are those that the outcomes tell as drawn; each telegram is sealed under the address of its node and its

@@ -80,6 +80,7 @@ module _ (before : Before) (stand : Stand before) (few : crowded before ≡ None
   is_node node is short = record {
     name = is.name;
     address = is.address;
+    address_fits = is.address_fits;
     next_some = is.next_some;
     next_fits = is.next_fits;
     groups = groups_at node.address before.objects stand.groups;

@@ -48,6 +48,7 @@ added b (said.Event event) = lists Events b.rows b.nodes b.objects b.marks (b.ev
 pub record IsNodeLine (node : NodeLine) : Type 0 where
   pub name : IsName node.name
   pub address : 0 < node.address.0
+  pub address_fits : node.address.0 < 2 ^ 16
   pub next_some : 0 < node.next
   pub next_fits : node.next < 2 ^ 48
 

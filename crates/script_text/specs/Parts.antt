@@ -2,11 +2,17 @@
 use Rattle.std.specs.Prelude.{◌≡◌, ℕ, ◌≤◌, ◌==◌, ◌||◌, ◌&&◌, nat_eq, nat_le, Bool, true, List, length}
 use Rattle.std.specs.List.{list_all}
 use Rattle.std.specs.Cmp.Lexicographic.{pointwise}
+use Rattle.aes_modes.specs.Cipher.{AreOctets}
 
 -- so many octets at the least and at the most
 pub record HasLength (low high : ℕ) (octets : List ℕ) : Type 0 where
   pub least : low ≤ length octets
   pub most : length octets ≤ high
+
+-- six octets, as a synchronisation's challenge has
+pub record IsChallenge (challenge : List ℕ) : Type 0 where
+  pub six : length challenge ≡ 6
+  pub octets : AreOctets challenge
 
 -- a to z, a digit, or `_`
 abbrev pub is_name_octet : ℕ → Bool

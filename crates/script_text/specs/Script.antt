@@ -9,7 +9,7 @@ use Rattle.key_tables.specs.Build.{build_fault}
 use Rattle.key_tables.specs.Lanes.{is_any, lanes_of}
 use Rattle.group_objects.specs.declared.row.ObjectRow.{ObjectRow}
 use Rattle.group_objects.specs.Objects.{objects_fault}
-use Rattle.script_text.specs.Parts.{HasLength, IsName}
+use Rattle.script_text.specs.Parts.{HasLength, IsChallenge, IsName}
 use Rattle.script_text.specs.declared.node_row.NodeRow.{NodeRow}
 use Rattle.script_text.specs.declared.event.Event.{Event}
 use Rattle.script_text.specs.declared.event.Event.TheVariants as event
@@ -43,11 +43,12 @@ groups_of objects = map (λ object. object.group) objects
 abbrev pub node_lanes : List Row → NodeRow → List Lane
 node_lanes rows node = lanes_of rows node.address (groups_of node.objects)
 
--- A node of these rows: its address is not 0, its next number is one of 48 bits and not 0, its objects are at most 64
--- and none are of one group, and it has a mark for each of its lanes.
+-- A node of these rows: its address is one of 16 bits and not 0, its next number is one of 48 bits and not 0, its
+-- objects are at most 64 and none are of one group, and it has a mark for each of its lanes.
 pub record IsNode (rows : List Row) (node : NodeRow) : Type 0 where
   pub name : IsName node.name
   pub address : 0 < node.address.0
+  pub address_fits : node.address.0 < 2 ^ 16
   pub next_some : 0 < node.next
   pub next_fits : node.next < 2 ^ 48
   pub groups : All (λ object. 0 < object.group.0) node.objects
@@ -75,7 +76,7 @@ abbrev pub IsEvent : ℕ → Event → Type 0
 IsEvent nodes (event.Set node object value) = (node < nodes) × (object ≤ last_object)
 IsEvent nodes (event.Send node object service) = (node < nodes) × (object ≤ last_object)
 IsEvent nodes (event.ToolSend node to apdu) = (node < nodes) × HasLength 2 16 apdu
-IsEvent nodes (event.Ask node to challenge) = (node < nodes) × (length challenge ≡ 6)
+IsEvent nodes (event.Ask node to challenge) = (node < nodes) × IsChallenge challenge
 IsEvent nodes (event.Deliver telegram node) = (0 < telegram) × (node < nodes)
 IsEvent nodes (event.Lose telegram) = 0 < telegram
 IsEvent nodes (event.Inject octets) = HasLength 1 265 octets
