@@ -182,8 +182,14 @@ opened files current i name d old new first is moved =
       named = λ _. ap Some at_name;
       place = ap (place_named (set files i new)) at_name ∙ start;
       start = λ _. start;
-      others = λ other differs. place_other files i name other new first same_name differs;
     }
+
+-- and no other file's place changed
+pub opened_alone : (files : List Stored) (i : ℕ) (name : List ℕ) (d old new : Stored) (place : ℕ) → FirstAt files i name
+    → old ≡ get_or files i d → new ≡ record old { place = place }
+    → (other : List ℕ) → other ≢ name → place_named (set files i new) other ≡ place_named files other
+opened_alone files i name d old new place first is moved other differs =
+    place_other files i name other new first (named_set files i name d old new place first is moved) differs
 
 -- the current file gave n octets
 pub moved_on : (files : List Stored) (i n room : ℕ) (d old new : Stored) (buffer : List ℕ)
@@ -221,8 +227,6 @@ moved_on files i n room d old new buffer first is moved count some bound given l
       end = λ m octets same holds none. ap (λ l. drop (place_named files name) l) (sym (told m octets same holds))
           ∙ drop_of_length-le old.octets (omega (arith, before, count, some, none));
       moved = λ m same _. ap (place_named (set files i new)) (sym (same_Some name m same) ∙ sym at_name);
-      others =
-          λ other differs. place_other files i name other new first same_name (λ same. differs (ap Some (sym same)));
     }
 
 -- the search for a name in these files found this place

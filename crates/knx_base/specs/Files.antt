@@ -39,19 +39,19 @@ pub record Seen : Type 0 where
 abbrev pub Holds : Seen → List ℕ → List ℕ → Type 0
 Holds seen name octets = IsSomeAnd seen.told (λ files. octets_named files name ≡ Some octets)
 
--- the named file is current, at its start, and no other file's place changed
+-- the named file is current, at its start
 pub record IsAtStart (old new : Seen) (name : List ℕ) : Type 0 where
   pub current : IsSome new.current
   pub named : IsSome old.told → new.current ≡ Some name
   pub place : new.place ≡ 0
   pub start : IsSome old.told → new.places name ≡ 0
-  pub others : (other : List ℕ) → other ≢ name → new.places other ≡ old.places other
 
--- what a call of `open` does
+-- what a call of `open` does: whether it fails or not, no other file's place changes
 pub record Opens {T E : Type 0} (old new : Seen) (name : List ℕ) (result : Result T E) : Type 0 where
   pub told : new.told ≡ old.told
   pub opened : OnOk result (IsAtStart old new name)
   pub closed : OnErr result (new.current ≡ None)
+  pub others : (other : List ℕ) → other ≢ name → new.places other ≡ old.places other
   pub cause : HasCause old.faults new.faults result
 
 -- the current file gave its next n octets to the front of the buffer, none only at its end
@@ -65,10 +65,10 @@ pub record MovesOn (old new : Seen) (buffer : List ℕ) (n : ℕ) : Type 0 where
   pub end : (name octets : List ℕ) → old.current ≡ Some name → Holds old name octets
       → n ≡ 0 → drop old.place octets ≡ []
   pub moved : (name : List ℕ) → old.current ≡ Some name → IsSome old.told → new.places name ≡ new.place
-  pub others : (other : List ℕ) → old.current ≢ Some other → new.places other ≡ old.places other
 
--- what a call of `read` does
+-- what a call of `read` does: whether it fails or not, no place changes but in the current file
 pub record Reads {E : Type 0} (old new : Seen) (buffer : List ℕ) (result : Result ℕ E) : Type 0 where
   pub told : new.told ≡ old.told
   pub moves : IfOk result (MovesOn old new buffer)
+  pub others : (other : List ℕ) → old.current ≢ Some other → new.places other ≡ old.places other
   pub cause : HasCause old.faults new.faults result

@@ -1,9 +1,9 @@
-ghost use Rattle.std.specs.Prelude.{◌≡◌, ℕ, ◌+◌, ◌-◌, ◌^◌, ◌<◌, ◌≤◌, ◌==◌, Bool, List, [], ◌∷◌, ◌++◌, length, take, drop, min, map, position, nat_eq, Option, Some, None, IsSome, IfSome, IfNone, IfOk, OnOk, OnErr};
+ghost use Rattle.std.specs.Prelude.{◌≡◌, ◌≢◌, ℕ, ◌+◌, ◌-◌, ◌^◌, ◌<◌, ◌≤◌, ◌==◌, Bool, List, [], ◌∷◌, ◌++◌, length, take, drop, min, map, position, nat_eq, Option, Some, None, IsSome, IfSome, IfNone, IfOk, OnOk, OnErr};
 ghost use Rattle.std.specs.Option.{option_map, ForSome};
 ghost use Rattle.std.specs.Cmp.Lexicographic.{pointwise};
 ghost use Rattle.std.specs.String.{string_bytes};
 ghost use Rattle.knx_base.specs.Files.{IsThere, IsAtStart, MovesOn, octets_named};
-ghost use Rattle.knx_base.specs.Shelf.{Stored, ShelfState, FirstAt, file_of, name_at, seen_in_memory};
+ghost use Rattle.knx_base.specs.Shelf.{Stored, ShelfState, FirstAt, file_of, name_at, place_named, seen_in_memory};
 
 use crate::NoMemory;
 use std::alloc::Global;
@@ -106,6 +106,8 @@ impl Shelf {
         ensures told { map file_of self.new.files ≡ map file_of self.old.files }
         ensures start { IsAtStart (seen_in_memory self.old.files self.old.current 0)
             (seen_in_memory self.new.files self.new.current 0) name.now }
+        ensures others { (other : List ℕ) → other ≢ name.now
+            → place_named self.new.files other ≡ place_named self.old.files other }
     {
         if let Some(index) = position_named(&self.files, name) {
             let file = &mut self.files[index];
@@ -126,6 +128,8 @@ impl Shelf {
         ensures told { map file_of self.new.files ≡ map file_of self.old.files }
         ensures moves { MovesOn (seen_in_memory self.old.files self.old.current 0)
             (seen_in_memory self.new.files self.new.current 0) buffer.new result }
+        ensures others { (other : List ℕ) → self.old.current ≢ Some other
+            → place_named self.new.files other ≡ place_named self.old.files other }
     {
         match self.current {
             Some(index) => {

@@ -1,4 +1,4 @@
-ghost use Rattle.std.specs.Prelude.{◌≡◌, ℕ, ◌+◌, ◌-◌, ◌≤◌, List, [], ◌∷◌, length, take, drop, IsTrue, ◌↔◌, IsSome, IfOk, OnOk, OnErr, MatchOption};
+ghost use Rattle.std.specs.Prelude.{◌≡◌, ◌≢◌, ℕ, ◌+◌, ◌-◌, ◌≤◌, List, [], ◌∷◌, length, take, drop, IsTrue, ◌↔◌, Some, IsSome, IfOk, OnOk, OnErr, MatchOption};
 ghost use Rattle.knx_base.specs.Faults.{HasCause};
 ghost use Rattle.knx_base.specs.Files.{Seen};
 ghost use Rattle.text_lines.specs.Reading.{GoesOn, WhereTold, TakesOctet, ahead, count_of};
@@ -63,6 +63,8 @@ impl Source {
         requires current { IsSome (F.seen files.old).current }
         requires empty { self.old ≡ [] }
         ensures told { (F.seen files.new).told ≡ (F.seen files.old).told }
+        ensures others { (other : List ℕ) → (F.seen files.old).current ≢ Some other
+            → (F.seen files.new).places other ≡ (F.seen files.old).places other }
         ensures goes { OnOk result (GoesOn (F.seen files.old) (F.seen files.new) [] self.new 0) }
         ensures given { OnOk result (WhereTold (F.seen files.old)
             (λ octets. drop (F.seen files.old).place octets ≡ ahead (F.seen files.new) self.new octets)) }

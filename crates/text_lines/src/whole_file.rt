@@ -32,7 +32,7 @@ pub fn read_all<F: Files>(
     ensures whole { IfOk result (λ found. (octets : List ℕ) → Holds (F.seen files.old) name.now octets
         → ReadsWhole most octets ((F.seen files.new).places name.now) (option_map (λ text. text.items) found)) }
     ensures others { (other : List ℕ) → other ≢ name.now → IsSome (F.seen files.old).told
-        → IfOk result (λ found. (F.seen files.new).places other ≡ (F.seen files.old).places other) }
+        → (F.seen files.new).places other ≡ (F.seen files.old).places other }
     ensures later { (F.seen files.old).faults ≤ (F.seen files.new).faults }
     ensures kept { result ≢ Err FileFault.ReadFault → (F.seen files.new).faults ≡ (F.seen files.old).faults }
     ensures read_fault { result ≡ Err FileFault.ReadFault → Rose (F.seen files.old).faults (F.seen files.new).faults }
@@ -51,6 +51,8 @@ fn read_rest<F: Files>(
 ) -> Result<Option<Vec<u8>>, FileFault>
     requires current { IsSome (F.seen files.old).current }
     ensures told { (F.seen files.new).told ≡ (F.seen files.old).told }
+    ensures others { (other : List ℕ) → (F.seen files.old).current ≢ Some other
+        → (F.seen files.new).places other ≡ (F.seen files.old).places other }
     ensures goes { IfOk result (λ found. GoesOn (F.seen files.old) (F.seen files.new) [] [] 0) }
     ensures rest { IfOk result (λ found. WhereTold (F.seen files.old)
         (λ octets. ReadsRest most (drop (F.seen files.old).place octets) (drop (F.seen files.new).place octets)

@@ -2,7 +2,7 @@ use Rattle.std.proofs.Common.{map, sym, subst, arith}
 use Rattle.std.specs.Prelude.{IsSome}
 use Rattle.knx_base.specs.Files.{octets_named}
 use Rattle.knx_base.specs.Shelf.{ShelfState, file_of}
-use Rattle.knx_base.proofs.ShelfLemmas.{first_found, never_missing, length-first, still_first, told_set, opened}
+use Rattle.knx_base.proofs.ShelfLemmas.{first_found, never_missing, length-first, still_first, told_set, opened, opened_alone}
 use Rattle.knx_base.proofs.shelf.Shelf.open.Goals as goal
 
 pub index_mut-file-requires : goal.index_mut-file-requires
@@ -33,3 +33,9 @@ returns-in_default-clause-start c =
     let there = subst IsThere (sym c.self.view_is) c.requires.there in
     absurd (never_missing c.self.inside.files.items _ _ _ c.deref.ensures.value c.position_named.ensures c.in_default.is
     there)
+
+pub returns-in-Some-clause-others : goal.returns-in-Some-clause-others
+returns-in-Some-clause-others c =
+    let first =
+    first_found c.self.inside.files.items _ _ _ _ c.deref.ensures.value c.position_named.ensures c.in-Some.is in
+    rw (← c.self.view_is) (opened_alone _ _ _ _ _ _ 0 first c.index_mut-file.ensures.value c.restart.ensures.start)
