@@ -23,6 +23,10 @@ ahead seen held octets = held ++ drop seen.place octets
 abbrev pub to_come : Seen → List ℕ → ℕ
 to_come seen held = (last_place - seen.place) + length held
 
+-- no place changed but in the current file
+abbrev pub OthersStay : Seen → Seen → Type 0
+OthersStay old new = (other : List ℕ) → old.current ≢ Some other → new.places other ≡ old.places other
+
 -- The current file was read on from one moment to another without a fault, and at least n octets were taken.
 pub record GoesOn (old new : Seen) (held kept : List ℕ) (n : ℕ) : Type 0 where
   pub told : new.told ≡ old.told
@@ -33,7 +37,7 @@ pub record GoesOn (old new : Seen) (held kept : List ℕ) (n : ℕ) : Type 0 whe
   pub less : to_come new kept + n ≤ to_come old held
   pub placed : (name : List ℕ) → old.current ≡ Some name → IsSome old.told → old.places name ≡ old.place
       → new.places name ≡ new.place
-  pub others : (other : List ℕ) → old.current ≢ Some other → new.places other ≡ old.places other
+  pub others : OthersStay old new
   pub within : (octets : List ℕ) → CurrentHas old octets → old.place ≤ length octets → new.place ≤ length octets
   pub no_fault : new.faults ≡ old.faults
 

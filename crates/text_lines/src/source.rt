@@ -1,7 +1,7 @@
-ghost use Rattle.std.specs.Prelude.{◌≡◌, ◌≢◌, ℕ, ◌+◌, ◌-◌, ◌≤◌, List, [], ◌∷◌, length, take, drop, IsTrue, ◌↔◌, Some, IsSome, IfOk, OnOk, OnErr, MatchOption};
+ghost use Rattle.std.specs.Prelude.{◌≡◌, ℕ, ◌+◌, ◌-◌, ◌≤◌, List, [], ◌∷◌, length, take, drop, IsTrue, ◌↔◌, IsSome, IfOk, OnOk, OnErr, MatchOption};
 ghost use Rattle.knx_base.specs.Faults.{HasCause};
 ghost use Rattle.knx_base.specs.Files.{Seen};
-ghost use Rattle.text_lines.specs.Reading.{GoesOn, WhereTold, TakesOctet, ahead, count_of};
+ghost use Rattle.text_lines.specs.Reading.{GoesOn, OthersStay, WhereTold, TakesOctet, ahead, count_of};
 
 use knx_base::{Failed, Files};
 use std::marker::Model;
@@ -63,8 +63,7 @@ impl Source {
         requires current { IsSome (F.seen files.old).current }
         requires empty { self.old ≡ [] }
         ensures told { (F.seen files.new).told ≡ (F.seen files.old).told }
-        ensures others { (other : List ℕ) → (F.seen files.old).current ≢ Some other
-            → (F.seen files.new).places other ≡ (F.seen files.old).places other }
+        ensures others { OthersStay (F.seen files.old) (F.seen files.new) }
         ensures goes { OnOk result (GoesOn (F.seen files.old) (F.seen files.new) [] self.new 0) }
         ensures given { OnOk result (WhereTold (F.seen files.old)
             (λ octets. drop (F.seen files.old).place octets ≡ ahead (F.seen files.new) self.new octets)) }
@@ -83,6 +82,7 @@ impl Source {
     pub fn next<F: Files>(&mut self, files: &mut F) -> Result<Option<u8>, Failed>
         requires current { IsSome (F.seen files.old).current }
         ensures told { (F.seen files.new).told ≡ (F.seen files.old).told }
+        ensures others { OthersStay (F.seen files.old) (F.seen files.new) }
         ensures goes { IfOk result (λ octet. GoesOn (F.seen files.old) (F.seen files.new) self.old self.new
             (count_of octet)) }
         ensures given { IfOk result (λ octet. TakesOctet (F.seen files.old) (F.seen files.new) self.old self.new

@@ -2,7 +2,7 @@ ghost use Rattle.std.specs.Prelude.{◌≡◌, ℕ, ◌+◌, ◌≤◌, ◌<◌,
 ghost use Rattle.std.specs.Str.Lines.{strip_carriage_return};
 ghost use Rattle.knx_base.specs.Faults.{HasCause};
 ghost use Rattle.knx_base.specs.Files.{Seen};
-ghost use Rattle.text_lines.specs.Reading.{GoesOn, ReadsLine, least_of};
+ghost use Rattle.text_lines.specs.Reading.{GoesOn, OthersStay, ReadsLine, least_of};
 
 use crate::Source;
 use crate::lines::MOST_OCTETS;
@@ -126,6 +126,7 @@ pub fn read_line<F: Files>(
 ) -> Result<LineRead, Failed>
     requires current { IsSome (F.seen files.old).current }
     ensures told { (F.seen files.new).told ≡ (F.seen files.old).told }
+    ensures others { OthersStay (F.seen files.old) (F.seen files.new) }
     ensures goes { IfOk result (λ read. GoesOn (F.seen files.old) (F.seen files.new) source.old source.new
         (least_of read)) }
     ensures line { IfOk result (λ read. ReadsLine (F.seen files.old) (F.seen files.new) source.old source.new line.new

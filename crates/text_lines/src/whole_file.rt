@@ -2,7 +2,7 @@ ghost use Rattle.std.specs.Prelude.{◌≡◌, ◌≢◌, ℕ, ◌≤◌, List, 
 ghost use Rattle.std.specs.Option.{ForSome};
 ghost use Rattle.knx_base.specs.Faults.{Rose};
 ghost use Rattle.knx_base.specs.Files.{Seen, Holds, IsThere};
-ghost use Rattle.text_lines.specs.Reading.{GoesOn, WhereTold, ReadsRest, ReadsWhole};
+ghost use Rattle.text_lines.specs.Reading.{GoesOn, OthersStay, WhereTold, ReadsRest, ReadsWhole};
 
 use crate::Source;
 use knx_base::Files;
@@ -51,8 +51,7 @@ fn read_rest<F: Files>(
 ) -> Result<Option<Vec<u8>>, FileFault>
     requires current { IsSome (F.seen files.old).current }
     ensures told { (F.seen files.new).told ≡ (F.seen files.old).told }
-    ensures others { (other : List ℕ) → (F.seen files.old).current ≢ Some other
-        → (F.seen files.new).places other ≡ (F.seen files.old).places other }
+    ensures others { OthersStay (F.seen files.old) (F.seen files.new) }
     ensures goes { IfOk result (λ found. GoesOn (F.seen files.old) (F.seen files.new) [] [] 0) }
     ensures rest { IfOk result (λ found. WhereTold (F.seen files.old)
         (λ octets. ReadsRest most (drop (F.seen files.old).place octets) (drop (F.seen files.new).place octets)
