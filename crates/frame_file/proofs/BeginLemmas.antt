@@ -5,8 +5,8 @@ use Rattle.std.specs.Str.Lines.{lines}
 use Rattle.std.specs.Option.{IsSomeAnd}
 use Rattle.knx_base.specs.Faults.{Rose}
 use Rattle.knx_base.specs.Files.{File, Seen, Holds, last_place, octets_named}
-use Rattle.text_lines.specs.Reading.{WhereTold, CurrentHas, GoesOn, ahead}
-use Rattle.text_lines.proofs.Readers.{takes_less, goes_then, has_same}
+use Rattle.text_lines.specs.Reading.{WhereTold, CurrentHas, GoesOn, OthersStay, ahead}
+use Rattle.text_lines.proofs.Readers.{takes_less, goes_then, others_then, has_same}
 use Rattle.tag_text.specs.declared.tag.TagFault.TheVariants as tag
 use Rattle.frame_file.specs.declared.fault.RecordFault.{RecordFault}
 use Rattle.frame_file.specs.declared.fault.RecordFault.TheVariants as fault
@@ -64,6 +64,7 @@ pub record Begun (seen later : Seen) (kept : List ℕ) (count : ℕ) (old new : 
   pub lines : new.lines ≡ count
   pub held : new.held ≡ kept
   pub told : later.told ≡ seen.told
+  pub others : OthersStay seen later
 
 begun_goes : (seen later : Seen) (held : List ℕ) (count n m : ℕ) (old new : ReaderState)
     → Begun seen later held count old new → m ≤ n → GoesOn seen later [] held n
@@ -128,6 +129,7 @@ list_begun seen later held octets lead old new (Err why) begun given entry liste
   leaves : (why : RecordFault) → (why ≢ fault.ReadFault → GoesOn seen later [] held 1) → Leaves seen later old new why
   leaves why goes = record {
     told = begun.told;
+    others = begun.others;
     counted = given ∙ sym begun.given;
     goes = λ other. subst (λ n. GoesOn seen later old.held new.held n) (sym (ap least_taken begun.start))
         (begun_goes seen later held lead.lines 1 1 old new begun (omega arith) (goes other));
@@ -220,10 +222,11 @@ log_begun seen mid later held octets lead old new said at start lines_are given_
             ∙ sym (ap (λ s. left_ahead s new (ahead later new.held all)) stage_is);
       }
 
-      leaves : (why : RecordFault) → later.told ≡ seen.told
+      leaves : (why : RecordFault) → later.told ≡ seen.told → OthersStay seen later
           → (why ≢ fault.ReadFault → GoesOn seen later old.held new.held 1) → Leaves seen later old new why
-      leaves why told goes = record {
+      leaves why told others goes = record {
         told = told;
+        others = others;
         counted = given_is;
         goes = λ other. subst (λ n. GoesOn seen later old.held new.held n) (sym (ap least_taken start)) (goes other);
       }
@@ -236,13 +239,15 @@ log_begun seen mid later held octets lead old new said at start lines_are given_
           → Refuses seen later old why × Leaves seen later old new why
       failed fault.LongFile reads = (
         list_is (refused_by fault.LongFile) reads.1,
-        leaves fault.LongFile (went reads.0).told (λ other. went reads.0),
+        leaves fault.LongFile (went reads.0).told (went reads.0).others (λ other. went reads.0),
       )
       failed fault.ReadFault reads = (
-        subst (λ n. Rose n later.faults) goes.no_fault reads.1,
-        leaves fault.ReadFault (reads.0 ∙ goes.told) (λ other. absurd (other refl)),
+        subst (λ n. Rose n later.faults) goes.no_fault reads.2,
+        leaves fault.ReadFault (reads.0 ∙ goes.told) (others_then seen mid later goes.current goes.others reads.1)
+            (λ other. absurd (other refl)),
       )
-      failed fault.NoMemory reads = ((start, log_is), leaves fault.NoMemory (went reads).told (λ other. went reads))
+      failed fault.NoMemory reads =
+          ((start, log_is), leaves fault.NoMemory (went reads).told (went reads).others (λ other. went reads))
       failed (fault.Line number cause) reads = elim reads [ ]
       failed (fault.LongLine number) reads = elim reads [ ]
       failed (fault.TooMany number) reads = elim reads [ ]

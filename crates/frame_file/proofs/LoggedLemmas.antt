@@ -91,6 +91,7 @@ log_gives seen old new list said at stage_is gives =
             record {
               told = refl;
               counted = counted;
+              others = λ other not_current. refl;
               goes = λ other. went held;
             },
           )

@@ -4,7 +4,7 @@ use Rattle.std.specs.Prelude.{IfOk, IfErr, IfSome}
 use Rattle.std.proofs.lemmas.Bool.Decides.{nat_tests}
 use Rattle.knx_base.specs.Faults.{Rose}
 use Rattle.knx_base.specs.Files.{Seen}
-use Rattle.text_lines.specs.Reading.{WhereTold, GoesOn, ReadsRest, ahead}
+use Rattle.text_lines.specs.Reading.{WhereTold, GoesOn, OthersStay, ReadsRest, ahead}
 use Rattle.text_lines.proofs.Readers.{has_same, goes_then, takes_less}
 use Rattle.tag_text.specs.Document.{outcome_of}
 use Rattle.frame_file.specs.declared.fault.RecordFault.{RecordFault}
@@ -112,10 +112,10 @@ log_said seen later held kept text whole lead found (Err why) front goes none fo
     subst (λ w. ReadsLog seen later held kept lead (Err w)) (sym memory) goes
 
 pub read_failed : (seen later : Seen) (held kept : List ℕ) (lead : LeadState) (why : RecordFault)
-    → later.told ≡ seen.told → (why ≢ fault.ReadFault → GoesOn seen later held kept 0)
+    → later.told ≡ seen.told → OthersStay seen later → (why ≢ fault.ReadFault → GoesOn seen later held kept 0)
     → (why ≡ fault.NoMemory) ⊎ ((why ≡ fault.ReadFault) × Rose seen.faults later.faults)
     → ReadsLog seen later held kept lead (Err why)
-read_failed seen later held kept lead why told goes (inl is) =
+read_failed seen later held kept lead why told others goes (inl is) =
     subst (λ w. ReadsLog seen later held kept lead (Err w)) (sym is) (goes (λ e. absurd (cc (sym is ∙ e))))
-read_failed seen later held kept lead why told goes (inr is) =
-    subst (λ w. ReadsLog seen later held kept lead (Err w)) (sym is.0) (told, is.1)
+read_failed seen later held kept lead why told others goes (inr is) =
+    subst (λ w. ReadsLog seen later held kept lead (Err w)) (sym is.0) (told, others, is.1)

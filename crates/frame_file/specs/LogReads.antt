@@ -2,7 +2,7 @@
 use Rattle.std.specs.Prelude.{◌≡◌, ℕ, ◌≤◌, true, List, [], ◌∷◌, ◌++◌, length, drop, IfSome, Result, Ok, Err}
 use Rattle.knx_base.specs.Faults.{Rose}
 use Rattle.knx_base.specs.Files.{Seen}
-use Rattle.text_lines.specs.Reading.{WhereTold, GoesOn, ahead}
+use Rattle.text_lines.specs.Reading.{WhereTold, GoesOn, OthersStay, ahead}
 use Rattle.frame_file.specs.declared.fault.RecordFault.{RecordFault}
 use Rattle.frame_file.specs.declared.fault.RecordFault.TheVariants.{LongFile, ReadFault, NoMemory}
 use Rattle.frame_file.specs.Lists.{RecordList, IsOfText, refused_by}
@@ -21,6 +21,7 @@ ReadsLog seen later held kept lead (Ok list) = GoesOn seen later held kept 0 × 
     × WhereTold seen (λ octets. (drop later.place octets ≡ []) × LogIs seen held lead list octets)
 ReadsLog seen later held kept lead (Err LongFile) = GoesOn seen later held kept 0
     × WhereTold seen (λ octets. LogIs seen held lead (refused_by LongFile) octets)
-ReadsLog seen later held kept lead (Err ReadFault) = (later.told ≡ seen.told) × Rose seen.faults later.faults
+ReadsLog seen later held kept lead (Err ReadFault) =
+    (later.told ≡ seen.told) × OthersStay seen later × Rose seen.faults later.faults
 ReadsLog seen later held kept lead (Err NoMemory) = GoesOn seen later held kept 0
 ReadsLog seen later held kept lead (Err fault) = ⊥

@@ -3,7 +3,7 @@ use Rattle.std.specs.Prelude.{◌≡◌, ◌≢◌, ℕ, ◌+◌, ◌≤◌, Boo
 use Rattle.std.specs.Str.Lines.{lines}
 use Rattle.knx_base.specs.Faults.{Rose}
 use Rattle.knx_base.specs.Files.{Seen, last_place}
-use Rattle.text_lines.specs.Reading.{WhereTold, GoesOn, ahead}
+use Rattle.text_lines.specs.Reading.{WhereTold, GoesOn, OthersStay, ahead}
 use Rattle.frame_file.specs.Lists.{Entry, RecordList, IsOfText, no_records, refused_by, with_record}
 use Rattle.frame_file.specs.Logs.{is_log, most_logged}
 use Rattle.frame_file.specs.Records.{most_records, records_from, records_of}
@@ -96,11 +96,12 @@ Refuses seen later state NoMemory = TakesMemory seen state
 Refuses seen later state (Tag tag.NoMemory) = ⊥
 Refuses seen later state fault = WhereTold seen (λ octets. left seen state octets ≡ refused_by fault)
 
--- What a fault leaves: the files tell the same, no record was given, and unless the files failed the current file was
--- read on, and no other.
+-- What a fault leaves: the files tell the same, no record was given, and no place changed but in the current file, which
+-- was read on unless the files failed.
 pub record Leaves (seen later : Seen) (old new : ReaderState) (fault : RecordFault) : Type 0 where
   pub told : later.told ≡ seen.told
   pub counted : new.given ≡ old.given
+  pub others : OthersStay seen later
   pub goes : fault ≢ ReadFault → GoesOn seen later old.held new.held (least_taken old.stage)
 
 -- the answer to: is there one more record?

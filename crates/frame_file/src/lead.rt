@@ -1,5 +1,6 @@
 ghost use Rattle.std.specs.Prelude.{◌≡◌, ℕ, ◌+◌, ◌^◌, ◌<◌, ◌≤◌, List, [], ◌==◌, ◌&&◌, IsSome, IfErr};
 ghost use Rattle.knx_base.specs.Files.{Seen, last_place};
+ghost use Rattle.text_lines.specs.Reading.{OthersStay};
 ghost use Rattle.frame_file.specs.Lists.{IsOfText};
 ghost use Rattle.frame_file.specs.Lead.{LeadIs, Takes, TakesListed, EndsFront, ReadsFront, may_begin, step_said};
 
@@ -68,6 +69,7 @@ impl Lead {
             result }
         ensures later { (F.seen files.old).faults ≤ (F.seen files.new).faults }
         ensures told { (F.seen files.new).told ≡ (F.seen files.old).told }
+        ensures others { OthersStay (F.seen files.old) (F.seen files.new) }
     {
         'octets: loop {
             match source.next(files) {

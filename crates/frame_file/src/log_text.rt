@@ -1,7 +1,7 @@
 ghost use Rattle.std.specs.Prelude.{◌≡◌, ◌≢◌, ℕ, ◌+◌, ◌≤◌, List, [], ◌∷◌, ◌++◌, length, drop, ◌⊎◌, IsSome, IfOk, IfErr, IfSome, OnOk, Err, option_map};
 ghost use Rattle.knx_base.specs.Faults.{HasCause, Rose};
 ghost use Rattle.knx_base.specs.Files.{Seen};
-ghost use Rattle.text_lines.specs.Reading.{GoesOn, WhereTold, ReadsRest, ahead};
+ghost use Rattle.text_lines.specs.Reading.{GoesOn, OthersStay, WhereTold, ReadsRest, ahead};
 ghost use Rattle.frame_file.specs.Lead.{IsFront};
 ghost use Rattle.frame_file.specs.LeadView.{lead_of};
 ghost use Rattle.frame_file.specs.LogReads.{ReadsLog};
@@ -56,6 +56,7 @@ pub(crate) fn read_rest<F: Files>(
     ensures empty { IfOk result (λ found. IfSome found (λ text. source.new ≡ [])) }
     ensures few { IfOk result (λ found. IfSome found (λ text. length text.items ≤ 16777216)) }
     ensures told { (F.seen files.new).told ≡ (F.seen files.old).told }
+    ensures others { OthersStay (F.seen files.old) (F.seen files.new) }
     ensures later { (F.seen files.old).faults ≤ (F.seen files.new).faults }
     ensures fault { IfErr result (λ fault. (fault ≡ RecordFault.NoMemory) ⊎ ((fault ≡ RecordFault.ReadFault)
         × Rose (F.seen files.old).faults (F.seen files.new).faults)) }
@@ -81,6 +82,7 @@ pub(crate) fn read_rest<F: Files>(
 fn refill<F: Files>(source: &mut Source, files: &mut F) -> Result<(), Failed>
     requires current { IsSome (F.seen files.old).current }
     ensures told { (F.seen files.new).told ≡ (F.seen files.old).told }
+    ensures others { OthersStay (F.seen files.old) (F.seen files.new) }
     ensures goes { OnOk result (GoesOn (F.seen files.old) (F.seen files.new) source.old source.new 0) }
     ensures given { OnOk result (WhereTold (F.seen files.old)
         (λ octets. ahead (F.seen files.old) source.old octets ≡ ahead (F.seen files.new) source.new octets)) }

@@ -2,7 +2,7 @@
 use Rattle.std.proofs.Common.{◌≡◌, ℕ, ◌+◌, ◌≤◌, List, [], ◌∷◌, ◌++◌, length, drop, Option, Some, None, IsSome, subst, refl, sym, ap, ◌∙◌, append-nil, arith}
 use Rattle.std.specs.Option.{IsSomeAnd}
 use Rattle.knx_base.specs.Files.{File, Seen, Holds, octets_named}
-use Rattle.text_lines.specs.Reading.{CurrentHas, WhereTold, ahead, GoesOn, TakesOctet, count_of}
+use Rattle.text_lines.specs.Reading.{CurrentHas, WhereTold, ahead, GoesOn, OthersStay, TakesOctet, count_of}
 
 -- what is told of the current file at one moment is told later
 pub has_same : (old new : Seen) (held kept : List ℕ) (n : ℕ) → GoesOn old new held kept n → (octets : List ℕ)
@@ -44,6 +44,12 @@ takes_less old new held kept left n m no_more goes = record {
   no_fault = goes.no_fault;
 }
 
+-- the other places stay first and then
+pub others_then : (old mid new : Seen) → mid.current ≡ old.current → OthersStay old mid → OthersStay mid new
+    → OthersStay old new
+others_then old mid new same first then_ = λ other not_current.
+    then_ other (λ is. not_current (sym same ∙ is)) ∙ first other not_current
+
 -- what was taken first and then
 pub goes_then : (old mid new : Seen) (held between kept : List ℕ) (n m : ℕ) → GoesOn old mid held between n
     → GoesOn mid new between kept m → GoesOn old new held kept (n + m)
@@ -56,8 +62,7 @@ goes_then old mid new held between kept n m first then_ = record {
   less = omega (arith, first.less, then_.less);
   placed = λ name is told at. then_.placed name (first.current ∙ is)
       (subst (λ (o : Option (List File)). IsSome o) (sym first.told) told) (first.placed name is told at);
-  others = λ other not_current. then_.others other (λ is. not_current (sym first.current ∙ is))
-      ∙ first.others other not_current;
+  others = others_then old mid new first.current first.others then_.others;
   within = λ octets has within. then_.within octets (has_same old mid held between n first octets has)
       (first.within octets has within);
   no_fault = then_.no_fault ∙ first.no_fault;

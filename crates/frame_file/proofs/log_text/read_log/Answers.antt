@@ -22,5 +22,5 @@ returns-in-Ok-Some-clause-reads g c =
 pub returns-in-Err-clause-reads : goal.returns-in-Err-clause-reads
 returns-in-Err-clause-reads g c =
     read_failed (g.F.Files.seen c.args.files.now) (g.F.Files.seen c.read_rest.new.files) c.args.source.now
-    c.read_rest.new.source (lead_of c.args.lead.now) c.in-Err.fault c.read_rest.ensures.told
+    c.read_rest.new.source (lead_of c.args.lead.now) c.in-Err.fault c.read_rest.ensures.told c.read_rest.ensures.others
     (λ other. c.read_rest.ensures.goes (λ e. other (cc (sym c.in-Err.is ∙ e)))) c.in-Err.ensures.fault

@@ -40,4 +40,5 @@ returns-clause-steps g c =
       lines = c.begin_list.ensures.lines;
       held = c.begin_list.ensures.held;
       told = c.read-shown.ensures.told;
+      others = c.read-shown.ensures.others;
     }) c.begin_list.ensures.given c.begin_list.ensures.entry c.begin_list.ensures.list c.read-shown.ensures.reads)
