@@ -6,3 +6,5 @@ pub mod Keeping
 pub mod Entitling
 pub mod Asking
 pub mod NodeLanes
+pub mod Digits
+pub mod Shown

@@ -14,15 +14,47 @@ use knx_ccm::CodeDiffers;
 use plain_apdu::{BadObject, Service, service_name};
 use secure_apdu::BadSecure;
 
+/// How many octets are written in hexadecimal at a time.
+const PIECE: usize = 256;
+
 /// Writes the text of a verdict, without a line end. `apdu` is the APDU that was opened, which the text of an accepted
 /// telegram shows.
 pub fn write_verdict<S: Sink>(verdict: &Verdict, apdu: &[u8], out: &mut S) -> Result<(), Failed>
-    requires short { length apdu.now ≤ 242 }
     ensures text { Prints (S.octets out.old) (S.octets out.new) result (verdict_text verdict.now apdu.now) }
     ensures cause { HasCause (S.faults out.old) (S.faults out.new) result }
 {
     let mut line = LineBuf::new();
-    put_verdict(verdict, apdu, &mut line);
+    put_verdict(verdict, &[], &mut line);
+    print_text(line.bytes(), out)?;
+
+    // Only the text of an accepted telegram has the APDU, at its end.
+    match verdict {
+        Verdict::Accepted { .. } => print_octets(apdu, out),
+        _ => Ok(()),
+    }
+}
+
+// Writes octets in hexadecimal, in pieces that fit a line.
+fn print_octets<S: Sink>(octets: &[u8], out: &mut S) -> Result<(), Failed>
+    ensures text { Prints (S.octets out.old) (S.octets out.new) result (encode_lower octets.now) }
+    ensures cause { HasCause (S.faults out.old) (S.faults out.new) result }
+{
+    let mut rest = octets;
+    while !rest.is_empty() {
+        let (piece, more) = rest.split_at(rest.len().min(PIECE));
+        print_piece(piece, out)?;
+        rest = more;
+    }
+    Ok(())
+}
+
+fn print_piece<S: Sink>(octets: &[u8], out: &mut S) -> Result<(), Failed>
+    requires short { length octets.now ≤ 256 }
+    ensures text { Prints (S.octets out.old) (S.octets out.new) result (encode_lower octets.now) }
+    ensures cause { HasCause (S.faults out.old) (S.faults out.new) result }
+{
+    let mut line = LineBuf::new();
+    line.hex(octets);
     print_text(line.bytes(), out)
 }
 
