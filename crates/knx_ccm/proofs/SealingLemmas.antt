@@ -2,7 +2,7 @@
 use Rattle.std.proofs.Common.{◌≡◌, ℕ, ◌+◌, ◌-◌, ◌≤◌, Bool, true, false, cond, List, [], ◌∷◌, ◌++◌, length, take, drop, refl, sym, ap, ◌∙◌, subst, append_assoc, take-append-drop, length-append, length-drop, arith}
 use Rattle.std.proofs.lemmas.List.{take_at, drop_at, take_rest, length-take, length-take-le}
 use Rattle.std.proofs.lemmas.Slice.Eq.{bytes_eq-Decides}
-use Rattle.std.specs.Prelude.{nat_eq, Some, None}
+use Rattle.std.specs.Prelude.{◌↔◌, nat_eq, Some, None}
 use Rattle.std.specs.Cmp.Lexicographic.{pointwise}
 use Rattle.std.proofs.Math.Seq.{take-append_seam, drop-append_seam}
 use Rattle.aes_modes.specs.Modes.{mac_of, with_stream}
@@ -174,3 +174,21 @@ opened-none key head body never =
         → cond b (Some (said_apdu key head body)) None ≡ None
     by_test true says = absurd (never (said_apdu key head body) (says refl))
     by_test false says = refl
+
+-- what opens is what seals to the body, and nothing else
+pub opened-law : (key : List ℕ) (head : Head) (body apdu : List ℕ)
+    → (opened key head body ≡ Some apdu) ↔ Opens key head body apdu
+opened-law key head body apdu = (
+  by_test (pointwise nat_eq (sealed key head found) body) (bytes_eq-Decides (sealed key head found) body).0,
+  λ opens. opened-some key head body apdu (sym (opens-found key head body (line_of key head body) apdu refl opens).1)
+      opens,
+)
+  where
+    found : List ℕ
+    found = said_apdu key head body
+
+    by_test : (b : Bool) → (b ≡ true → sealed key head found ≡ body) → cond b (Some found) None ≡ Some apdu
+        → Opens key head body apdu
+    by_test true says is = let same : found ≡ apdu = cc in
+        subst (Opens key head body) same (says refl)
+    by_test false says is = absurd cc

@@ -1,6 +1,6 @@
 -- Sealing of an APDU of KNX Data Secure: a code by CBC-MAC over its head and octets, and a counter stream over both.
 -- Octet by octet this is the profile of docs/RULES.md.
-use Rattle.std.specs.Prelude.{◌≡◌, ℕ, ◌+◌, ◌-◌, ◌/◌, ◌%◌, ◌==◌, bit_and, bit_or, Bool, if◌then◌else◌, List, [], ◌∷◌, ◌++◌, length, take, drop, nat_eq, Option, Some, None}
+use Rattle.std.specs.Prelude.{◌≡◌, ℕ, ◌+◌, ◌-◌, ◌/◌, ◌%◌, ◌==◌, bit_and, bit_or, Bool, if◌then◌else◌, List, [], ◌∷◌, ◌++◌, length, take, drop, replicate, nat_eq, Option, Some, None, Result, IfErr}
 use Rattle.std.specs.Cmp.Lexicographic.{pointwise}
 use Rattle.knx_base.specs.Number.{octets_of}
 use Rattle.aes_modes.specs.Modes.{mac_of, with_stream}
@@ -65,6 +65,11 @@ pub record AreCodes (key : List ℕ) (head : Head) (body said computed : List �
   pub apdu : List ℕ
   pub on_the_wire : wired key head said apdu ≡ body
   pub of_the_apdu : code_of key head apdu ≡ computed
+
+-- Behind the place of the APDU nothing is written, and zeros are in its place where none seals.
+pub record WritesOnly {T E : Type 0} (place : ℕ) (result : Result T E) (old new : List ℕ) : Type 0 where
+  pub zeros : IfErr result (λ _. take place new ≡ replicate place 0)
+  pub rest : drop place new ≡ drop place old
 
 -- ---- what is on the wire
 

@@ -1,6 +1,6 @@
-ghost use Rattle.std.specs.Prelude.{◌≡◌, ◌≢◌, ◌≤◌, ◌+◌, ◌-◌, ℕ, List, length, take, drop, replicate, Some, None, IfOk, IfErr, MatchResult};
+ghost use Rattle.std.specs.Prelude.{◌≡◌, ◌≢◌, ◌↔◌, ◌≤◌, ◌+◌, ◌-◌, ℕ, List, length, take, Some, None, IfOk, IfErr, MatchResult};
 ghost use Rattle.std.specs.Result.{IsOkAnd};
-ghost use Rattle.knx_ccm.specs.Sealing.{algorithm, line_of, opened, said_code, computed_code, Opens, AreCodes};
+ghost use Rattle.knx_ccm.specs.Sealing.{algorithm, line_of, opened, said_code, computed_code, Opens, AreCodes, WritesOnly};
 
 use crate::Head;
 use crate::code::{CODE_LEN, cipher, code};
@@ -40,8 +40,11 @@ pub fn open(key: &Key128, head: &Head, body: &[u8], out: &mut [u8]) -> Result<us
         (λ codes. (opened key.now head.now body.now ≡ None)
         × (codes.said ≡ said_code key.now head.now body.now) × (codes.computed
         ≡ computed_code key.now head.now body.now)) }
-    ensures zeros { IfErr result (λ _. take (length body.now - 4) out.new ≡ replicate (length body.now - 4) 0) }
-    ensures rest { drop (length body.now - 4) out.new ≡ drop (length body.now - 4) out.old }
+
+    // What the function `opened` answers is what seals to the body, whatever APDU is asked about.
+    ensures law { (apdu : List ℕ) → (opened key.now head.now body.now ≡ Some apdu)
+        ↔ Opens key.now head.now body.now apdu }
+    ensures writes { WritesOnly (length body.now - 4) result out.old out.new }
 {
     let length = body.len() - CODE_LEN;
     let mut store = [0; CODE_LEN + MOST_APDU];

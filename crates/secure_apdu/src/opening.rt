@@ -1,4 +1,4 @@
-ghost use Rattle.std.specs.Prelude.{◌≡◌, ◌≢◌, ◌+◌, ◌/◌, ◌%◌, ◌==◌, List, ℕ, [], length, Some, None, OnOk, OnErr, IsOk, IfErr, MatchResult};
+ghost use Rattle.std.specs.Prelude.{◌≡◌, ◌≢◌, ◌↔◌, ◌+◌, ◌/◌, ◌%◌, ◌==◌, List, ℕ, [], length, Some, None, OnOk, OnErr, IsOk, IfErr, MatchResult};
 ghost use Rattle.knx_ccm.specs.Sealing.{opened, said_code, computed_code, Opens, AreCodes};
 ghost use Rattle.secure_apdu.specs.Secure.{bad_secure, HasParts};
 ghost use Rattle.secure_apdu.specs.Opening.{head_of};
@@ -38,6 +38,11 @@ pub fn open_frame(
         × (codes.said ≡ said_code key.now (head_of (telegram frame.now) number secure.now.field) secure.now.body.now)
         × (codes.computed ≡ computed_code key.now (head_of (telegram frame.now) number secure.now.field)
         secure.now.body.now)) }
+
+    // What the function `opened` answers is what seals to the frame's body, whatever APDU is asked about.
+    ensures law { (apdu : List ℕ) → (opened key.now (head_of (telegram frame.now) number secure.now.field)
+        secure.now.body.now ≡ Some apdu) ↔ Opens key.now (head_of (telegram frame.now) number secure.now.field)
+        secure.now.body.now apdu }
     ensures length { OnOk result (length out.new + 13 ≡ length frame.now.content.now) }
     ensures empty { OnErr result (out.new ≡ []) }
 {

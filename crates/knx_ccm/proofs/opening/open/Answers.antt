@@ -1,7 +1,7 @@
 use Rattle.std.proofs.Common.{◌≡◌, ◌≢◌, List, ℕ, take, drop, sym, ap, ◌∙◌, subst, rules}
 use Rattle.std.proofs.lemmas.List.{take_rest}
 use Rattle.knx_ccm.specs.Sealing.{code_of, wired, Opens}
-use Rattle.knx_ccm.proofs.SealingLemmas.{wired-back, opens-found, opens-back, length-line, copied, opened-some, opened-none}
+use Rattle.knx_ccm.proofs.SealingLemmas.{wired-back, opens-found, opens-back, length-line, copied, opened-some, opened-none, opened-law}
 use Rattle.knx_ccm.proofs.opening.open.Goals as goal
 
 pub returns-then-eq-clause-opened : goal.returns-then-eq-clause-opened
@@ -65,3 +65,9 @@ returns-else-eq-clause-answer c =
       c.front-said.ensures ∙ ap (take 4) c.decrypt.ensures,
       c.code-computed.ensures ∙ ap (code_of key head) (take_rest c.decrypt.new.line 4 ∙ ap (drop 4) c.decrypt.ensures),
     )
+
+pub returns-then-eq-clause-law : goal.returns-then-eq-clause-law
+returns-then-eq-clause-law c = opened-law c.args.key.now c.args.head.now c.args.body.now
+
+pub returns-else-eq-clause-law : goal.returns-else-eq-clause-law
+returns-else-eq-clause-law c = opened-law c.args.key.now c.args.head.now c.args.body.now
