@@ -10,7 +10,7 @@ use Rattle.cemi_frames.specs.Fields.{InfoRow, Fields, long_octets, standard_octe
 use Rattle.cemi_frames.specs.Frames.{Telegram, said_by, repeat_mark, IsData, IsStandard, IsExtended, IsCase, IsFrame, AreOctets}
 use Rattle.cemi_frames.specs.Faults.{first_of, head_tests, data_tests, raw_tests, body_tests, body_place, body_of, is_code, frame_fault}
 use Rattle.cemi_frames.specs.Reading.{long_fields, standard_fields, marked, data_frame, raw_frame, code_at, body_frame, frame_at}
-use Rattle.cemi_frames.specs.Law.{HasOneAnswer}
+use Rattle.cemi_frames.specs.Law.{HasOneAnswer, IsReadAsItIs}
 use Rattle.cemi_frames.proofs.FirstFault.{body_fault, first_of-body, frame_fault-body}
 use Rattle.cemi_frames.proofs.Passing.{first_of-none}
 use Rattle.cemi_frames.proofs.Message.{HeadOf-message, message-head}
@@ -228,3 +228,9 @@ one_answer octets are_octets = by (frame_fault octets) refl
         → other ≡ t)) (λ _. (t : Telegram) → IsFrame octets t → ⊥)
     by None none = (frame_at octets, is_frame octets are_octets none, λ other is. (frame_is_read octets other is).1)
     by (Some fault) found = λ t is. let none = (frame_is_read octets t is).0 in cc
+
+pub read_as_it_is : (octets : List ℕ) → AreOctets octets → IsReadAsItIs octets
+read_as_it_is octets are_octets t = (
+  frame_is_read octets t,
+  λ read. subst (IsFrame octets) (sym read.1) (is_frame octets are_octets read.0),
+)
