@@ -16,5 +16,5 @@ pub use alarm::is_alarm;
 pub use entry::{lane_of, secure_parts};
 pub use judgement::judge;
 pub use node_lanes::nodes_keep_on_their_lanes;
-pub use text::{put_verdict, write_verdict};
+pub use text::{print_octets, put_verdict, write_verdict};
 pub use verdict::{BadService, Judgement, Verdict};

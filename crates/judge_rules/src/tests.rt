@@ -313,5 +313,17 @@ fn each_other_verdict_has_its_text(rt: HostRuntime) -> Result<(), Fail> {
         write_verdict(&verdict, &[], &mut out)?;
         assert_eq!(rt; out.bytes(), told.as_bytes());
     }
+
+    // An APDU of any length is shown whole.
+    let accepted = Verdict::Accepted {
+        number: number(5)?,
+        service: Service::MemoryWrite,
+    };
+    let mut out = MemSink::new(rt.alloc(), 2000)?;
+    write_verdict(&accepted, &[0xa7; 600], &mut out)?;
+    let front = b"accepted number 5 Memory_Write ";
+    assert_eq!(rt; out.bytes().len(), front.len() + 1200);
+    assert!(rt; out.bytes().starts_with(front));
+    assert!(rt; out.bytes().ends_with(b"a7a7"));
     Ok(())
 }

@@ -14,7 +14,7 @@ use knx_ccm::CodeDiffers;
 use plain_apdu::{BadObject, Service, service_name};
 use secure_apdu::BadSecure;
 
-/// How many octets are written in hexadecimal at a time.
+// How many octets are written in hexadecimal at a time.
 const PIECE: usize = 256;
 
 /// Writes the text of a verdict, without a line end. `apdu` is the APDU that was opened, which the text of an accepted
@@ -34,8 +34,8 @@ pub fn write_verdict<S: Sink>(verdict: &Verdict, apdu: &[u8], out: &mut S) -> Re
     }
 }
 
-// Writes octets in hexadecimal, in pieces that fit a line.
-fn print_octets<S: Sink>(octets: &[u8], out: &mut S) -> Result<(), Failed>
+/// Writes octets in hexadecimal, two digits each in lower case, in pieces that fit a line.
+pub fn print_octets<S: Sink>(octets: &[u8], out: &mut S) -> Result<(), Failed>
     ensures text { Prints (S.octets out.old) (S.octets out.new) result (encode_lower octets.now) }
     ensures cause { HasCause (S.faults out.old) (S.faults out.new) result }
 {

@@ -26,13 +26,6 @@ nothing known = sym (base.append_known-nil known)
 pub short_name : (service : Service) → length (name_of service) ≤ 30
 short_name = names.length-name_of
 
--- a text was printed in part, as the front of another
-pub front_of : {T E : Type 0} (old new : Option (List ℕ)) (result : Result T E) (front back : List ℕ) {text : List ℕ}
-    → front ++ back ≡ text
-    → IsErr result → AppendsPrefix old new front → Prints old new result text
-front_of old new result front back whole failed begun =
-    subst (λ text. Prints old new result text) whole (no_more old new result front back failed begun)
-
 -- a text was printed whole and another after it, which are a third
 pub both_of : {T E : Type 0} (old mid new : Option (List ℕ)) (result : Result T E) (front back : List ℕ) {text : List ℕ}
     → front ++ back ≡ text

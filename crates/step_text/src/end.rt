@@ -1,12 +1,12 @@
 ghost use Rattle.std.specs.Prelude.{◌≡◌, ℕ, ◌+◌, ◌*◌, ◌≤◌, ◌++◌, ◌∷◌, [], List, length, codes};
 ghost use Rattle.std.specs.Fmt.{decimal};
-ghost use Rattle.hex.specs.Hex.{encode_lower};
 ghost use Rattle.knx_base.specs.Faults.{HasCause};
 ghost use Rattle.knx_base.specs.Sink.{Prints};
 ghost use Rattle.step_text.specs.Text.{state_text, node_text, value_text, kept_text, image_text, total_text};
 
 use crate::put::{put_lane, put_number, put_value};
 use group_objects::Value;
+use judge_rules::print_octets;
 use key_tables::Lane;
 use knx_base::{Failed, LineBuf, Number48, Sink, print_text};
 use script_text::Name;
@@ -21,9 +21,6 @@ pub struct NodeEnd {
     /// The last number that its memory has reserved.
     pub reserved: Number48,
 }
-
-// The most octets that are printed in hexadecimal at once.
-const PIECE: usize = 256;
 
 /// Writes the first line of a node.
 pub fn print_node<S: Sink>(node: &NodeEnd, out: &mut S) -> Result<(), Failed>
@@ -76,29 +73,6 @@ pub fn print_image<S: Sink>(octets: &[u8], out: &mut S) -> Result<(), Failed>
     print_text(b"image ", out)?;
     print_octets(octets, out)?;
     print_text(b"\n", out)
-}
-
-#[tactic(auto, using(crate::proofs::Pieces::then, crate::proofs::Pieces::no_more, crate::proofs::Digits::two_pieces))]
-fn print_octets<S: Sink>(octets: &[u8], out: &mut S) -> Result<(), Failed>
-    ensures text { Prints (S.octets out.old) (S.octets out.new) result (encode_lower octets.now) }
-    ensures cause { HasCause (S.faults out.old) (S.faults out.new) result }
-{
-    if octets.len() <= PIECE {
-        return print_piece(octets, out);
-    }
-    let (front, back) = octets.split_at(PIECE);
-    print_piece(front, out)?;
-    print_octets(back, out)
-}
-
-fn print_piece<S: Sink>(octets: &[u8], out: &mut S) -> Result<(), Failed>
-    requires short { length octets.now ≤ 256 }
-    ensures text { Prints (S.octets out.old) (S.octets out.new) result (encode_lower octets.now) }
-    ensures cause { HasCause (S.faults out.old) (S.faults out.new) result }
-{
-    let mut line = LineBuf::new();
-    line.hex(octets);
-    print_text(line.bytes(), out)
 }
 
 /// Writes the last line of a run: how many events it has, and how many telegrams were put on the air.
