@@ -1,4 +1,5 @@
 pub mod Answering
+pub mod Ordered
 pub mod Paging
 pub mod Refused
 pub mod SoFar

@@ -5,7 +5,7 @@ use Rattle.std.proofs.lemmas.List.{length-drop}
 use Rattle.std.proofs.lemmas.Option.{none-some}
 use Rattle.std.specs.Io.KnownBytes.{append_known}
 use Rattle.knx_base.specs.Files.{Seen}
-use Rattle.text_lines.specs.Reading.{CurrentHas, WhereTold, GoesOn}
+use Rattle.text_lines.specs.Reading.{CurrentHas, WhereTold, GoesOn, OthersStay}
 use Rattle.knx_base.specs.Sink.{AppendsPrefix}
 use Rattle.knx_base.proofs.Printing.{append_known-append, append_known-nil}
 use Rattle.text_lines.proofs.Readers.{has_same, goes_then}
@@ -301,6 +301,14 @@ pub gives_told : (seen later : Seen) (old new : RecordsState) (result : Result (
 gives_told seen later old new (Ok (Some given)) no_fault gives = gives.gives.goes.told
 gives_told seen later old new (Ok None) no_fault gives = gives.ends.goes.told
 gives_told seen later old new (Err fault) no_fault gives = (gives.first no_fault).told
+
+-- whatever was given, no other file was read
+pub gives_others : (seen later : Seen) (old new : RecordsState) (result : Result (Option Record) RecordFault)
+    → old.fault ≡ None → Gives seen later old new result
+    → OthersStay seen later
+gives_others seen later old new (Ok (Some given)) no_fault gives = gives.gives.goes.others
+gives_others seen later old new (Ok None) no_fault gives = gives.ends.goes.others
+gives_others seen later old new (Err fault) no_fault gives = (gives.first no_fault).others
 
 -- the first of the records that were left is the one that was given
 pub first_left : (seen later : Seen) (old new : RecordsState) (number : ℕ) (entry : Entry)

@@ -4,6 +4,7 @@ pub mod Auditing
 pub mod Commands
 pub mod Ends
 pub mod Opening
+pub mod Order
 pub mod Page
 pub mod Refusing
 pub mod Replaying

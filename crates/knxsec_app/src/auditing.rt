@@ -1,7 +1,8 @@
-ghost use Rattle.std.specs.Prelude.{◌≡◌, ◌≢◌, ℕ, List, [], length, IsSome, Some, None, Ok, IsOk, IsErr, IfOk, OnOk, IfErr, MatchResult};
+ghost use Rattle.std.specs.Prelude.{◌≡◌, ◌≢◌, ℕ, List, [], ◌∷◌, length, IsSome, Some, None, Ok, IsOk, IsErr, IfOk, OnOk, IfErr, MatchResult};
 ghost use Rattle.std.specs.Option.{ForSome};
 ghost use Rattle.knx_base.specs.Files.{File, Seen, Holds, IsThere};
 ghost use Rattle.text_lines.specs.Reading.{WhereTold};
+ghost use Rattle.text_lines.specs.Reading as reading;
 ghost use Rattle.key_tables.specs.Build.{build_fault, merged};
 ghost use Rattle.frame_file.specs.Records.{records_of};
 ghost use Rattle.knxsec_app.specs.Answer.{Answers};
@@ -9,6 +10,7 @@ ghost use Rattle.knxsec_app.specs.Auditing.{frames_answer, installation, laid_ov
 ghost use Rattle.knxsec_app.specs.Asked.{rows_of};
 ghost use Rattle.knxsec_app.specs.Commands.{octets_in, IsRead, IsServed, IsWhole, Stays};
 ghost use Rattle.knxsec_app.specs.Ends.{EndsReading, EndsTelling, OthersStay, ReadsToEnd, Stops, status_of};
+ghost use Rattle.knxsec_app.specs.Order.{OpensInOrder};
 
 use crate::Status;
 use crate::page::Page;
@@ -41,6 +43,8 @@ pub(crate) fn audit<F: Files, S: Sink>(
     ensures others { IsWhole result → IsSome (F.seen files.old).told → (other : List ℕ) → other ≢ tables.now
         → other ≢ frames.now
         → Stays (F.seen files.old) (F.seen files.new) other }
+    ensures order { (told : List File) → (F.seen files.old).told ≡ Some told
+        → OpensInOrder told (tables.now ∷ frames.now ∷ []) (F.seen files.old).places (F.seen files.new).places }
     ensures unopened { IsServed result → (told : List File) → (F.seen files.old).told ≡ Some told
         → IsErr (installation (rows_of under.entry) (octets_in told tables.now)) → (other : List ℕ) → other ≢ tables.now
         → Stays (F.seen files.old) (F.seen files.new) other }
@@ -69,7 +73,7 @@ fn read_installation<F: Files, S: Sink>(
     ensures read { IsOk result → (told : List File) → (F.seen files.old).told ≡ Some told
         → IsRead told (F.seen files.new) name.now }
     ensures told { (F.seen files.new).told ≡ (F.seen files.old).told }
-    ensures others { IsServed (status_of result) → OthersStay (F.seen files.old) (F.seen files.new) name.now }
+    ensures others { OthersStay (F.seen files.old) (F.seen files.new) name.now }
     ensures unwritten { OnOk result (out.new ≡ out.old) }
     ensures not_whole { IfErr result (λ status. IsWhole status → ⊥) }
     ensures ends { EndsReading (F.seen files.old) (F.seen files.new) (S.faults out.old) (S.faults out.new)
@@ -157,7 +161,7 @@ fn audit_frames<F: Files, S: Sink>(
         → Answers (frames_answer tables [] (records_of octets)) result (S.octets out.old) (S.octets out.new) }
     ensures whole { IsWhole result → (octets : List ℕ) → Holds (F.seen files.old) frames.now octets
         → (F.seen files.new).places frames.now ≡ length octets }
-    ensures others { IsWhole result → OthersStay (F.seen files.old) (F.seen files.new) frames.now }
+    ensures others { OthersStay (F.seen files.old) (F.seen files.new) frames.now }
     ensures told { (F.seen files.new).told ≡ (F.seen files.old).told }
     ensures ends { EndsReading (F.seen files.old) (F.seen files.new) (S.faults out.old) (S.faults out.new) result }
 {
@@ -179,6 +183,7 @@ fn audit_current<F: Files, S: Sink>(
     ensures answer { WhereTold (F.seen files.old) (λ octets. Answers (frames_answer tables [] (records_of octets))
         result (S.octets out.old) (S.octets out.new)) }
     ensures whole { IsWhole result → ReadsToEnd (F.seen files.old) (F.seen files.new) }
+    ensures others { reading.OthersStay (F.seen files.old) (F.seen files.new) }
     ensures told { (F.seen files.new).told ≡ (F.seen files.old).told }
     ensures ends { EndsReading (F.seen files.old) (F.seen files.new) (S.faults out.old) (S.faults out.new) result }
 {

@@ -1,4 +1,4 @@
-ghost use Rattle.std.specs.Prelude.{◌≡◌, ◌≢◌, ℕ, List, Some, IsSome, IsOk, IsErr, Ok, OnOk, IfErr, MatchResult};
+ghost use Rattle.std.specs.Prelude.{◌≡◌, ◌≢◌, ℕ, List, [], ◌∷◌, Some, IsOk, IsErr, Ok, OnOk, IfErr, MatchResult};
 ghost use Rattle.std.specs.Option.{ForSome};
 ghost use Rattle.knx_base.specs.Files.{File, IsThere};
 ghost use Rattle.keyring_reader.specs.Keyring.{keyring_of};
@@ -7,6 +7,7 @@ ghost use Rattle.knxsec_app.specs.Answer.{Answers};
 ghost use Rattle.knxsec_app.specs.Auditing.{keyring_answer, keyring_rows, keyring_told, password_of, within};
 ghost use Rattle.knxsec_app.specs.Commands.{octets_in, AreUnopened, IsRead, IsServed, IsWhole, Stays};
 ghost use Rattle.knxsec_app.specs.Ends.{EndsReading, EndsTelling, OthersStay, Stops, status_of};
+ghost use Rattle.knxsec_app.specs.Order.{OpensInOrder, ReadsInOrder};
 ghost use Rattle.knxsec_app.specs.Words.{AuditKeyring};
 
 use crate::Status;
@@ -39,6 +40,9 @@ pub(crate) fn audit_by_keyring<F: Files, S: Sink>(
     ensures unopened { IsServed result → (told : List File) → (F.seen files.old).told ≡ Some told
         → AreUnopened (Some (AuditKeyring names.now.keyring.now names.now.password.now names.now.tables.now
         names.now.frames.now)) told (F.seen files.old) (F.seen files.new) }
+    ensures order { (told : List File) → (F.seen files.old).told ≡ Some told
+        → OpensInOrder told (names.now.keyring.now ∷ names.now.password.now ∷ names.now.tables.now
+        ∷ names.now.frames.now ∷ []) (F.seen files.old).places (F.seen files.new).places }
     ensures told { (F.seen files.new).told ≡ (F.seen files.old).told }
     ensures ends { EndsReading (F.seen files.old) (F.seen files.new) (S.faults out.old) (S.faults out.new) result }
 {
@@ -72,9 +76,12 @@ fn open_keyring<F: Files, S: Sink>(
     ensures read { IsOk result → (told : List File) → (F.seen files.old).told ≡ Some told
         → IsRead told (F.seen files.new) names.now.keyring.now × IsRead told (F.seen files.new) names.now.password.now }
     ensures told { (F.seen files.new).told ≡ (F.seen files.old).told }
-    ensures others { IsServed (status_of result) → IsSome (F.seen files.old).told → (other : List ℕ)
-        → other ≢ names.now.keyring.now → other ≢ names.now.password.now
-        → Stays (F.seen files.old) (F.seen files.new) other }
+    ensures order { (told : List File) → (F.seen files.old).told ≡ Some told
+        → MatchResult result
+        (λ _. ReadsInOrder told (names.now.keyring.now ∷ names.now.password.now ∷ []) (F.seen files.old).places
+        (F.seen files.new).places)
+        (λ _. OpensInOrder told (names.now.keyring.now ∷ names.now.password.now ∷ []) (F.seen files.old).places
+        (F.seen files.new).places) }
     ensures unopened { IsServed (status_of result) → (told : List File) → (F.seen files.old).told ≡ Some told
         → IsErr (within WholeFile.Keyring (octets_in told names.now.keyring.now)) → (other : List ℕ)
         → other ≢ names.now.keyring.now → Stays (F.seen files.old) (F.seen files.new) other }

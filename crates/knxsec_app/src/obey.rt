@@ -5,6 +5,7 @@ ghost use Rattle.knxsec_app.specs.Answer.{Answers};
 ghost use Rattle.knxsec_app.specs.Asked.{asked_of};
 ghost use Rattle.knxsec_app.specs.Commands.{answer_to, AreFiles, AreRead, AreThere, AreUnopened, IsServed, IsWhole, LeavesAlone, Plays};
 ghost use Rattle.knxsec_app.specs.Ends.{EndsReading, EndsWriting};
+ghost use Rattle.knxsec_app.specs.Order.{OpensInOrder, files_of};
 
 use crate::Status;
 use crate::auditing::audit;
@@ -33,6 +34,9 @@ pub(crate) fn obey<F: Files, S: Sink>(
     ensures unopened { IsServed result → (told : List File) → AreFiles (Some (asked_of command.now)) (F.seen files.old)
         told
         → AreUnopened (Some (asked_of command.now)) told (F.seen files.old) (F.seen files.new) }
+    ensures order { (told : List File) → AreFiles (Some (asked_of command.now)) (F.seen files.old) told
+        → OpensInOrder told (files_of (Some (asked_of command.now))) (F.seen files.old).places
+        (F.seen files.new).places }
     ensures told { (F.seen files.new).told ≡ (F.seen files.old).told }
     ensures ends { EndsReading (F.seen files.old) (F.seen files.new) (S.faults out.old) (S.faults out.new) result }
     ensures alone { LeavesAlone (Some (asked_of command.now)) result (files.new ≡ files.old) }

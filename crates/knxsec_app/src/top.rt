@@ -4,8 +4,9 @@ ghost use Rattle.std.specs.String.{string_bytes};
 ghost use Rattle.knx_base.specs.Files.{File};
 ghost use Rattle.knxsec_app.specs.Words.{command_of};
 ghost use Rattle.knxsec_app.specs.Answer.{Answers};
-ghost use Rattle.knxsec_app.specs.Commands.{answer_of, AreFiles, AreRead, AreThere, AreUnopened, IsServed, IsWhole, LeavesAlone, Plays};
+ghost use Rattle.knxsec_app.specs.Commands.{answer_of, AreFiles, AreThere, LeavesAlone, Plays};
 ghost use Rattle.knxsec_app.specs.Ends.{IsCounted};
+ghost use Rattle.knxsec_app.specs.Order.{UsesFiles};
 
 use crate::Status;
 use crate::obey::{obey, print_usage};
@@ -41,18 +42,9 @@ pub fn run<F: Files, S: Sink>(
     ensures answer { (told : List File) → AreFiles (command_of (map string_bytes words.now)) (F.seen files.old) told
         → Answers (answer_of (map string_bytes words.now) told) result (S.octets out.old) (S.octets out.new) }
 
-    // With Done and Alarm each file that the words name was read to its end.
-    ensures whole { IsWhole result → (told : List File) → AreFiles (command_of (map string_bytes words.now))
-        (F.seen files.old) told
-        → AreRead (command_of (map string_bytes words.now)) told (F.seen files.new) }
-
-    // After a refusal no further file is opened, whether or not its line could be written.
-    ensures unopened { IsServed result → (told : List File) → AreFiles (command_of (map string_bytes words.now))
-        (F.seen files.old) told
-        → AreUnopened (command_of (map string_bytes words.now)) told (F.seen files.old) (F.seen files.new) }
-
-    // The files tell the same as before.
-    ensures told { (F.seen files.new).told ≡ (F.seen files.old).told }
+    // The files are opened in the order of the words, each after the one before was read to its end: with Done and
+    // Alarm all of them, after a refusal none that stands behind it.
+    ensures files { UsesFiles (command_of (map string_bytes words.now)) result (F.seen files.old) (F.seen files.new) }
 
     // Words of no form alone are answered by the usage line.
     ensures usage { result ≡ Status.Usage → command_of (map string_bytes words.now) ≡ None }

@@ -1,8 +1,10 @@
-use Rattle.std.proofs.Common.{[]}
+use Rattle.std.proofs.Common.{rules, [], inl, inr, ◌∙◌}
+use Rattle.knx_base.specs.Files.{Seen}
 use Rattle.frame_file.specs.Records.{records_of}
 use Rattle.knxsec_app.specs.Asked.{rows_of}
 use Rattle.knxsec_app.specs.Auditing.{frames_answer, installation}
 use Rattle.knxsec_app.specs.Commands.{octets_in}
+use Rattle.knxsec_app.proofs.Ordered.{only_of, reads_of}
 use Rattle.knxsec_app.proofs.Stopping.{stops_command}
 use Rattle.knxsec_app.proofs.auditing.audit.Goals as goal
 
@@ -11,3 +13,21 @@ returns-in-Err-clause-answer g c told is =
     stops_command (installation (rows_of c.args.under) (octets_in told c.args.tables.now))
     (λ rows. frames_answer rows [] (records_of (octets_in told c.args.frames.now))) _ _ _
     (c.in-Err.ensures.rows told is)
+
+pub returns-in-Err-clause-order : goal.returns-in-Err-clause-order
+returns-in-Err-clause-order g c told is =
+    inl (only_of (g.F.Files.seen c.args.files.now) (g.F.Files.seen c.read_installation.new.files) c.args.tables.now told
+    is c.read_installation.ensures.others)
+
+pub returns-in-Ok-clause-order : goal.returns-in-Ok-clause-order
+returns-in-Ok-clause-order g c told is =
+    let old : Seen = g.F.Files.seen c.args.files.now in
+    let mid : Seen = g.F.Files.seen c.read_installation.new.files in
+    let new : Seen = g.F.Files.seen c.audit_frames.new.files in
+    inr (
+      mid.places,
+      reads_of old mid c.args.tables.now told is c.read_installation.ensures.others
+          (c.read_installation.ensures.read (search rules) told is),
+      inl (only_of mid new c.args.frames.now told (c.read_installation.ensures.told ∙ is)
+          c.audit_frames.ensures.others),
+    )

@@ -1,10 +1,10 @@
 use Rattle.std.proofs.Common.{rules, arith, ◌+◌, [], ap, sym, subst, ◌∙◌}
 use Rattle.knx_base.specs.Files.{Seen}
-use Rattle.text_lines.proofs.Readers.{goes_then, takes_less}
+use Rattle.text_lines.proofs.Readers.{goes_then, others_then, takes_less}
 use Rattle.knxsec_app.specs.Answer.{Answers}
 use Rattle.frame_file.specs.Records.{records_of}
 use Rattle.knxsec_app.specs.Auditing.{frames_answer}
-use Rattle.knxsec_app.proofs.SoFar.{goes_on, wants_memory, stops_at_line, finishes, refuses, reads_to_end, some_given, none_given, fault_given, gives_told, first_left, few_given}
+use Rattle.knxsec_app.proofs.SoFar.{goes_on, wants_memory, stops_at_line, finishes, refuses, reads_to_end, some_given, none_given, fault_given, gives_told, gives_others, first_left, few_given}
 use Rattle.knxsec_app.proofs.auditing.audit_current.Goals as goal
 
 pub records-preserved : goal.records-preserved
@@ -96,3 +96,35 @@ returns-in-Err-clause-told g c =
     let before = c.records.invariant in
     gives_told (g.F.Files.seen c.records.files) (g.F.Files.seen c.next.new.files) _ _ c.next.result before.no_fault
     c.next.follows.holds-at-none ∙ before.goes.told
+
+pub returns-in_default-frame-clause-others : goal.returns-in_default-frame-clause-others
+returns-in_default-frame-clause-others g c =
+    let before = c.records.invariant in
+    let now : Seen = g.F.Files.seen c.records.files in
+    let later : Seen = g.F.Files.seen c.next.new.files in
+    others_then (g.F.Files.seen c.args.files.now) now later before.goes.current before.goes.others
+    (gives_others now later _ _ c.next.result before.no_fault c.next.follows.holds-at-none)
+
+pub returns-in_default-pass_line-clause-others : goal.returns-in_default-pass_line-clause-others
+returns-in_default-pass_line-clause-others g c =
+    let before = c.records.invariant in
+    let now : Seen = g.F.Files.seen c.records.files in
+    let later : Seen = g.F.Files.seen c.next.new.files in
+    others_then (g.F.Files.seen c.args.files.now) now later before.goes.current before.goes.others
+    (gives_others now later _ _ c.next.result before.no_fault c.next.follows.holds-at-none)
+
+pub returns-in-Ok-None-clause-others : goal.returns-in-Ok-None-clause-others
+returns-in-Ok-None-clause-others g c =
+    let before = c.records.invariant in
+    let now : Seen = g.F.Files.seen c.records.files in
+    let later : Seen = g.F.Files.seen c.next.new.files in
+    others_then (g.F.Files.seen c.args.files.now) now later before.goes.current before.goes.others
+    (gives_others now later _ _ c.next.result before.no_fault c.next.follows.holds-at-none)
+
+pub returns-in-Err-clause-others : goal.returns-in-Err-clause-others
+returns-in-Err-clause-others g c =
+    let before = c.records.invariant in
+    let now : Seen = g.F.Files.seen c.records.files in
+    let later : Seen = g.F.Files.seen c.next.new.files in
+    others_then (g.F.Files.seen c.args.files.now) now later before.goes.current before.goes.others
+    (gives_others now later _ _ c.next.result before.no_fault c.next.follows.holds-at-none)

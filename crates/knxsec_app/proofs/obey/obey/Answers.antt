@@ -1,7 +1,10 @@
-use Rattle.std.proofs.Common.{Some, sym, subst}
+use Rattle.std.proofs.Common.{Some, inl, sym, subst}
+use Rattle.knx_base.specs.Files.{Seen}
 use Rattle.knxsec_app.specs.Answer.{Answers}
 use Rattle.knxsec_app.specs.Asked.{asked_of}
 use Rattle.knxsec_app.specs.Commands.{answer_to, AreFiles, AreThere, AreUnopened}
+use Rattle.knxsec_app.specs.Order.{OpensInOrder, files_of}
+use Rattle.knxsec_app.proofs.Ordered.{only_of}
 use Rattle.knxsec_app.proofs.obey.obey.Goals as goal
 
 pub audit-requires : goal.audit-requires
@@ -50,3 +53,28 @@ replay-requires g c = record {
   there =
       λ told is. subst (λ command. AreThere (Some (asked_of command)) told) c.in-Replay.is (c.requires.there told is);
 }
+
+pub returns-in-Audit-clause-order : goal.returns-in-Audit-clause-order
+returns-in-Audit-clause-order g c told are =
+    let old : Seen = g.F.Files.seen c.args.files.now in
+    let new : Seen = g.F.Files.seen c.audit.new.files in
+    subst (λ command. OpensInOrder told (files_of (Some (asked_of command))) old.places new.places)
+    (sym c.in-Audit.is)
+    (c.audit.ensures.order told (subst (λ command. AreFiles (Some (asked_of command)) old told) c.in-Audit.is are))
+
+pub returns-in-AuditKeyring-clause-order : goal.returns-in-AuditKeyring-clause-order
+returns-in-AuditKeyring-clause-order g c told are =
+    let old : Seen = g.F.Files.seen c.args.files.now in
+    let new : Seen = g.F.Files.seen c.audit_by_keyring.new.files in
+    subst (λ command. OpensInOrder told (files_of (Some (asked_of command))) old.places new.places)
+    (sym c.in-AuditKeyring.is)
+    (c.audit_by_keyring.ensures.order told (subst (λ command. AreFiles (Some (asked_of command)) old told) c.in-AuditKeyring.is are))
+
+pub returns-in-Replay-clause-order : goal.returns-in-Replay-clause-order
+returns-in-Replay-clause-order g c told are =
+    let old : Seen = g.F.Files.seen c.args.files.now in
+    let new : Seen = g.F.Files.seen c.replay.new.files in
+    subst (λ command. OpensInOrder told (files_of (Some (asked_of command))) old.places new.places)
+    (sym c.in-Replay.is)
+    (inl (only_of old new c.in-Replay.script.now told
+    (subst (λ command. AreFiles (Some (asked_of command)) old told) c.in-Replay.is are) c.replay.ensures.others))

@@ -1,4 +1,21 @@
+use Rattle.std.proofs.Common.{refl}
 use Rattle.knxsec_app.proofs.top.run.Goals as goal
 
 pub returns-in-None-clause-answer : goal.returns-in-None-clause-answer
 returns-in-None-clause-answer g c = λ told are. rw (← c.in-None.ensures.asked) (c.print_usage.ensures.answer told)
+
+pub returns-in-None-clause-files : goal.returns-in-None-clause-files
+returns-in-None-clause-files g c = rw (← c.in-None.ensures.asked) (record {
+  told = refl;
+  order = λ files are other. refl;
+  whole = λ is_whole files are. tt;
+  unopened = λ is_served files are. tt;
+})
+
+pub returns-in-Some-clause-files : goal.returns-in-Some-clause-files
+returns-in-Some-clause-files g c = rw (← c.in-Some.ensures.asked) (record {
+  told = c.obey.ensures.told;
+  order = c.obey.ensures.order;
+  whole = c.obey.ensures.whole;
+  unopened = c.obey.ensures.unopened;
+})
