@@ -17,9 +17,10 @@ use Rattle.key_tables.specs.declared.types.Row.TheVariants as row
 use Rattle.key_tables.specs.Rows.{is_key_row, has_key}
 use Rattle.keyring_reader.specs.declared.gathered.Gathered.{Gathered}
 use Rattle.keyring_reader.specs.declared.fault.KeyringFault.TheVariants as fault
-use Rattle.keyring_reader.specs.Contents.{Contents, with_key}
-use Rattle.keyring_reader.specs.Roles.{ascending, keyed_group, keyed_device}
-use Rattle.keyring_reader.specs.Holding.{by_group, by_device, Holds}
+use Rattle.keyring_reader.specs.Contents.{Contents}
+use Rattle.keyring_reader.specs.Saying.{with_key}
+use Rattle.keyring_reader.specs.Roles.{ascending, keyed_group, keyed_device, by_group, by_device}
+use Rattle.keyring_reader.specs.Holding.{Holds}
 use Rattle.keyring_reader.proofs.ListedLemmas.{or_false, is_eq-nat_cmp}
 
 either_or : (here known : Bool) → cond here true known ≡ (known || (here || false))

@@ -8,7 +8,7 @@ use Rattle.tag_text.specs.declared.tag.Tag.TheVariants.{Start, End, Finish}
 use Rattle.keyring_reader.specs.declared.kind.Kind.{Kind}
 use Rattle.keyring_reader.specs.declared.kind.Kind.TheVariants as kind
 use Rattle.keyring_reader.specs.Kinds.{Named, own_address, kind_at}
-use Rattle.keyring_reader.specs.Contents.{Element, outside, elements_in}
+use Rattle.keyring_reader.specs.Elements.{Element, outside, elements_in}
 use Rattle.keyring_reader.specs.Walk.{kind_in, innermost}
 
 -- the elements that tags begin, in order, inside of elements of these kinds

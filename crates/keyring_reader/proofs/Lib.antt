@@ -11,6 +11,8 @@ mod HoldingLemmas
 mod KindLemmas
 mod ContentsLemmas
 mod KeyringLemmas
+mod JudgedLemmas
+mod FirstLemmas
 mod NoTagLemmas
 mod OrderLemmas
 mod SameLemmas

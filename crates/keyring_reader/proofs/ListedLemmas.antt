@@ -14,8 +14,8 @@ use Rattle.std.proofs.lemmas.List.Folds.{list_any-append}
 use Rattle.knx_base.specs.declared.address.GroupAddr.{GroupAddr}
 use Rattle.knx_base.specs.declared.address.IndAddr.{IndAddr}
 use Rattle.keyring_reader.specs.declared.said.Listing.{Listing}
-use Rattle.keyring_reader.specs.Roles.{ascending, lists, is_listed, senders_to, listed_senders}
-use Rattle.keyring_reader.specs.Holding.{by_group, by_device, AreListed}
+use Rattle.keyring_reader.specs.Roles.{ascending, lists, is_listed, senders_to, listed_senders, by_group, by_device}
+use Rattle.keyring_reader.specs.Holding.{AreListed}
 
 pub or_false : (b : Bool) → (b || false) ≡ b
 or_false true = refl

@@ -18,11 +18,16 @@ use Rattle.keyring_reader.specs.declared.kind.Kind.TheVariants as kind
 use Rattle.keyring_reader.specs.declared.said.Said.{Said}
 use Rattle.keyring_reader.specs.declared.said.Said.TheVariants.{Nothing, GroupKey, ToolKey, Lists}
 use Rattle.keyring_reader.specs.Attributes.{name_of}
-use Rattle.keyring_reader.specs.Contents.{◌>>=◌, Element, Contents, device_at, group_at, key_at, devices_at, words_of, senders_at, tool_says, address_says, said_of, says, taken, with_element, contents_from, contents_of}
+use Rattle.keyring_reader.specs.Answers.{◌>>=◌}
+use Rattle.keyring_reader.specs.Elements.{Element, words_of}
+use Rattle.keyring_reader.specs.Contents.{Contents, contents_of}
+use Rattle.keyring_reader.specs.Saying.{device_at, group_at, key_at, devices_at, senders_at, tool_says, address_says, said_of, says, taken, with_element, contents_from}
 use Rattle.keyring_reader.specs.Signed.{first_long, signature_of}
 use Rattle.keyring_reader.specs.Keys.{stored_block, key_named}
 use Rattle.keyring_reader.specs.Kinds.{device_named, group_named}
-use Rattle.keyring_reader.specs.Keyring.{Root, Stamps, unless, root_of, stamps_in, stamps_of, is_computed, wrapping_of, keyring_under, IsFault}
+use Rattle.keyring_reader.specs.Keyring.{Root, Stamps, root_of, stamps_in, stamps_of, is_computed, wrapping_of, keyring_under, IsFault}
+use Rattle.keyring_reader.specs.Answers.{unless}
+use Rattle.keyring_reader.proofs.JudgedLemmas.{in_turn}
 
 abbrev IsOwn : KeyringFault → Type 0
 IsOwn (fault.Tag why) = ⊥
@@ -171,12 +176,13 @@ judged_own true why x own = tt
 judged_own false why x own = own
 
 under_own : (key : List ℕ) (tags : List Tag) → HasOwn (keyring_under key tags)
-unfolding keyring_under contents_of
+unfolding keyring_under
 under_own key tags =
     then (stamps_of tags) _ (stamps_own tags) (λ stamps.
     then (wrapping_of key tags stamps) _ (judged_own (is_computed (signature_of tags key)
     (stored_block stamps.signature)) (fault.Signature _ _) _ tt) (λ under.
-    then (contents_of under tags) _ (contents_own under _ _) (λ contents. tt)))
+    then (contents_of under tags) _ (subst (λ (r : Result Contents KeyringFault). HasOwn r) (in_turn under tags)
+    (contents_own under _ _)) (λ contents. tt)))
 
 -- no fault that the tags have is the document's
 not_the_documents : (key : List ℕ) (tags : List Tag) (why : KeyringFault) (tag : TagFault)

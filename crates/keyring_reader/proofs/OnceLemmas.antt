@@ -22,11 +22,14 @@ use Rattle.keyring_reader.specs.declared.keys.Wrapping.{Wrapping}
 use Rattle.keyring_reader.specs.declared.said.Listing.{Listing}
 use Rattle.keyring_reader.specs.declared.said.Said.{Said}
 use Rattle.keyring_reader.specs.declared.said.Said.TheVariants.{Nothing, GroupKey, ToolKey, Lists}
-use Rattle.keyring_reader.specs.Contents.{◌>>=◌, Element, Contents, elements_in, says, taken, with_key, with_element, contents_from, contents_of}
-use Rattle.keyring_reader.specs.Roles.{ascending, groups_of, devices_of, is_listed, senders_to, commands, roles_by, group_roles, device_role, rows_of}
-use Rattle.keyring_reader.specs.Holding.{by_group, by_device}
+use Rattle.keyring_reader.specs.Answers.{◌>>=◌}
+use Rattle.keyring_reader.specs.Elements.{Element, elements_in}
+use Rattle.keyring_reader.specs.Contents.{Contents, contents_of}
+use Rattle.keyring_reader.specs.Saying.{says, taken, with_key, with_element, contents_from}
+use Rattle.keyring_reader.specs.Roles.{ascending, groups_of, devices_of, is_listed, senders_to, commands, roles_by, group_roles, device_role, rows_of, by_group, by_device}
 use Rattle.keyring_reader.proofs.HoldingLemmas.{eqb-comm}
 use Rattle.keyring_reader.proofs.ListedLemmas.{is_eq-nat_cmp}
+use Rattle.keyring_reader.proofs.JudgedLemmas.{in_turn}
 use Rattle.keyring_reader.proofs.OrderLemmas.{ascends}
 
 -- ---- each of a list, and each two of it
@@ -156,9 +159,9 @@ keys_from under now all (element ∷ elements) are is =
     keys_from under went.0 all elements (said_keys now went.0 element.place told.0 are told.2) went.2
 
 keys_of : (under : Wrapping) (tags : List Tag) (all : Contents) → contents_of under tags ≡ Ok all → HasKeys all
-unfolding contents_of
 keys_of under tags all is =
-    keys_from under (record { rows = []; listings = [] }) all (elements_in [] tags) (record { keys = tt; once = tt }) is
+    keys_from under (record { rows = []; listings = [] }) all (elements_in [] tags) (record { keys = tt; once = tt })
+    (in_turn under tags ∙ is)
 
 -- ---- role rows
 

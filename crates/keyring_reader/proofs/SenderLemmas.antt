@@ -10,7 +10,9 @@ use Rattle.std.proofs.lemmas.Bool.{eqb-true}
 use Rattle.std.proofs.lemmas.List.{drop_more, drop_all}
 use Rattle.knx_base.specs.declared.address.IndAddr.{IndAddr}
 use Rattle.keyring_reader.specs.declared.fault.KeyringFault.{KeyringFault}
-use Rattle.keyring_reader.specs.Contents.{◌>>=◌, device_at, is_word, devices_at}
+use Rattle.keyring_reader.specs.Answers.{◌>>=◌}
+use Rattle.keyring_reader.specs.Saying.{device_at, devices_at}
+use Rattle.keyring_reader.specs.Elements.{is_word}
 
 -- those that were read, before what is read of the rest
 abbrev after : List IndAddr → Result (List IndAddr) KeyringFault → Result (List IndAddr) KeyringFault

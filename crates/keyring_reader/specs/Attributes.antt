@@ -1,4 +1,4 @@
--- The attributes that a keyring must have, by their names.
+-- The attributes that a keyring must have, by their names. This is statement.
 use Rattle.std.specs.Prelude.{ℕ, List, codes, Result}
 use Rattle.std.specs.Option.{ok_or}
 use Rattle.tag_text.specs.Attributes.{value_named}

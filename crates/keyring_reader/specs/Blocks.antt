@@ -1,4 +1,4 @@
--- Blocks of sixteen octets, and the first of them that passes a test.
+-- Blocks of sixteen octets, and the first of them that passes a test. This is statement.
 use Rattle.std.specs.Prelude.{ℕ, zero, suc, ◌/◌, ◌%◌, ◌^◌, Bool, if◌then◌else◌, List, [], ◌∷◌, Option, Some, None}
 use Rattle.std.specs.Option.{option_or}
 

@@ -1,8 +1,6 @@
--- What was gathered of the contents of a keyring.
+-- What was gathered of the contents of a keyring, so far: plumbing for proofs.
 use Rattle.std.specs.Prelude.{◌≡◌, List}
 use Rattle.std.specs.Option.{option_map}
-use Rattle.std.specs.declared.cmp.Ordering.{Ordering}
-use Rattle.std.specs.Ordering.{nat_cmp}
 use Rattle.std.specs.BTreeMap.{BTreeMap}
 use Rattle.std.specs.BTreeMap as tree
 use Rattle.std.specs.BTreeSet.{BTreeSet, contains, keys}
@@ -13,13 +11,7 @@ use Rattle.key_tables.specs.Rows.{has_key}
 use Rattle.keyring_reader.specs.declared.gathered.Gathered.{Gathered}
 use Rattle.keyring_reader.specs.declared.said.Listing.{Listing}
 use Rattle.keyring_reader.specs.Contents.{Contents}
-use Rattle.keyring_reader.specs.Roles.{groups_of, devices_of, listed_senders}
-
-abbrev pub by_group : GroupAddr → GroupAddr → Ordering
-by_group a b = nat_cmp a.0 b.0
-
-abbrev pub by_device : IndAddr → IndAddr → Ordering
-by_device a b = nat_cmp a.0 b.0
+use Rattle.keyring_reader.specs.Roles.{by_group, by_device, groups_of, devices_of, listed_senders}
 
 -- the map has the senders of each group that is listed
 abbrev pub AreListed : BTreeMap GroupAddr (BTreeSet IndAddr) → List Listing → Type 0

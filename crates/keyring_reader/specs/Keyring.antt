@@ -1,4 +1,4 @@
--- What a keyring gives: its rows, or why it is refused.
+-- What a keyring gives: its rows, or why it is refused. This is statement.
 use Rattle.std.specs.Prelude.{◌≡◌, ℕ, if◌then◌else◌, Bool, false, List, ◌∷◌, codes, Option, Some, None, Result, Ok, Err}
 use Rattle.std.specs.Option.{option_map}
 use Rattle.std.specs.Str.{bytes_eq}
@@ -12,16 +12,12 @@ use Rattle.keyring_reader.specs.declared.attribute.Attribute.TheVariants.{Create
 use Rattle.keyring_reader.specs.declared.fault.KeyringFault.{KeyringFault}
 use Rattle.keyring_reader.specs.declared.fault.KeyringFault.TheVariants as fault
 use Rattle.keyring_reader.specs.Attributes.{required}
-use Rattle.keyring_reader.specs.Contents.{◌>>=◌, contents_of}
+use Rattle.keyring_reader.specs.Answers.{◌>>=◌, unless}
+use Rattle.keyring_reader.specs.Contents.{contents_of}
 use Rattle.keyring_reader.specs.declared.keys.Wrapping.{Wrapping}
 use Rattle.keyring_reader.specs.Keys.{stored_block, password_key, short_hash}
 use Rattle.keyring_reader.specs.Roles.{rows_of}
 use Rattle.keyring_reader.specs.Signed.{first_long, signature_of}
-
--- the answer, unless there is a fault before it
-abbrev pub unless : {A : Type 0} → Option KeyringFault → Result A KeyringFault → Result A KeyringFault
-unless (Some why) answer = Err why
-unless None answer = answer
 
 -- ---- the root element
 

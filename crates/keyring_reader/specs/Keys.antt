@@ -1,4 +1,4 @@
--- The keys of a keyring: the key that a password gives, and the keys that are stored under it.
+-- The keys of a keyring: the key that a password gives, and the keys that are stored under it. This is statement.
 use Rattle.std.specs.Prelude.{ℕ, List, codes, take, Option}
 use Rattle.std.specs.Option.{option_and_then}
 use Rattle.std.specs.Str.{bytes_eq}

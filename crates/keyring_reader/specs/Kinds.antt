@@ -1,4 +1,4 @@
--- What an element of a keyring is, by the path of names from the root to it.
+-- What an element of a keyring is, by the path of names from the root to it. This is statement.
 use Rattle.std.specs.Prelude.{ℕ, ◌==◌, ◌&&◌, if◌then◌else◌, Bool, true, false, List, [], ◌∷◌, codes, reverse, Option, Some, None}
 use Rattle.std.specs.Option.{option_map, option_and_then}
 use Rattle.std.specs.Str.{bytes_eq}

@@ -1,11 +1,15 @@
+pub mod Answers
 pub mod Attributes
 pub mod Blocks
 pub mod Keys
-pub mod Texts
 pub mod Signed
 pub mod Kinds
-pub mod Walk
+pub mod Elements
+pub mod Refusals
 pub mod Contents
 pub mod Roles
 pub mod Keyring
+pub mod Walk
+pub mod Saying
+pub mod Texts
 pub mod Holding

@@ -1,6 +1,7 @@
--- The role rows that a keyring's contents give.
+-- The role rows that a keyring's contents give. This is statement.
 use Rattle.std.specs.Prelude.{ℕ, ◌==◌, if◌then◌else◌, Bool, List, [], ◌∷◌, ◌++◌, map, fold, flat_map, filter_map, Option, Some, None}
 use Rattle.std.specs.List.{list_any, filter}
+use Rattle.std.specs.declared.cmp.Ordering.{Ordering}
 use Rattle.std.specs.Ordering.{nat_cmp}
 use Rattle.std.specs.BTreeSet.{insert_key}
 use Rattle.knx_base.specs.declared.address.GroupAddr.{GroupAddr}
@@ -15,6 +16,12 @@ use Rattle.keyring_reader.specs.Contents.{Contents}
 -- each of these once, in ascending order of its number
 unfoldable pub ascending : {A : Type 0} → (A → ℕ) → List A → List A
 ascending number = fold (insert_key (λ a b. nat_cmp (number a) (number b))) []
+
+abbrev pub by_group : GroupAddr → GroupAddr → Ordering
+by_group a b = nat_cmp a.0 b.0
+
+abbrev pub by_device : IndAddr → IndAddr → Ordering
+by_device a b = nat_cmp a.0 b.0
 
 abbrev pub keyed_group : Row → Option GroupAddr
 keyed_group (row.Group address _ _) = Some address

@@ -1,4 +1,4 @@
--- What pairs of borrowed texts show.
+-- What pairs of borrowed texts show: plumbing for proofs.
 use Rattle.std.specs.Prelude.{ℕ, List}
 use denote.Ref.{Bor}
 

@@ -1,4 +1,4 @@
--- The kinds of elements as they are read in turn, each by its name and by the kind of the element that it stands in.
+-- The kinds of elements as they are read in turn, each by its name and the kind around it: plumbing for proofs.
 use Rattle.std.specs.Prelude.{ℕ, if◌then◌else◌, List, [], ◌∷◌, codes, Option, Some, None}
 use Rattle.std.specs.Str.{bytes_eq}
 use Rattle.keyring_reader.specs.declared.kind.Kind.{Kind}

@@ -1,7 +1,8 @@
 //! The elements of a keyring, read in turn.
 
 ghost use Rattle.std.specs.Prelude.{◌≡◌, Ok, IfOk, IfErr, OnOk};
-ghost use Rattle.keyring_reader.specs.Contents.{Contents, with_element, contents_of};
+ghost use Rattle.keyring_reader.specs.Contents.{Contents, contents_of};
+ghost use Rattle.keyring_reader.specs.Saying.{with_element};
 ghost use Rattle.keyring_reader.specs.Holding.{Holds};
 ghost use Rattle.keyring_reader.specs.Keyring.{IsFault};
 

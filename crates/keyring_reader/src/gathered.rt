@@ -4,9 +4,10 @@ ghost use Rattle.std.specs.Prelude.{◌≡◌, List, ◌∷◌, [], ◌++◌, fo
 ghost use Rattle.std.specs.Option.{option_map};
 ghost use Rattle.std.specs.BTreeSet.{insert_key, keys};
 ghost use Rattle.keyring_reader.specs.declared.said.Listing.{Listing};
-ghost use Rattle.keyring_reader.specs.Contents.{Contents, with_key, taken};
-ghost use Rattle.keyring_reader.specs.Roles.{commands, roles_by, group_roles, device_role, rows_of};
-ghost use Rattle.keyring_reader.specs.Holding.{by_group, by_device, AreListed, Holds};
+ghost use Rattle.keyring_reader.specs.Contents.{Contents};
+ghost use Rattle.keyring_reader.specs.Saying.{with_key, taken};
+ghost use Rattle.keyring_reader.specs.Roles.{commands, roles_by, group_roles, device_role, rows_of, by_group, by_device};
+ghost use Rattle.keyring_reader.specs.Holding.{AreListed, Holds};
 ghost use Rattle.keyring_reader.specs.Keyring.{IsFault};
 
 use crate::KeyringFault;

@@ -1,7 +1,7 @@
 ghost use Rattle.std.specs.Prelude.{◌≡◌, ◌∷◌, [], OnOk};
 ghost use Rattle.std.specs.Option.{option_and_then};
 ghost use Rattle.keyring_reader.specs.Kinds.{device_named, group_named, own_address};
-ghost use Rattle.keyring_reader.specs.Contents.{outside};
+ghost use Rattle.keyring_reader.specs.Elements.{outside};
 ghost use Rattle.keyring_reader.specs.Walk.{root_kind, section_kind, where_named, kind_in, innermost};
 
 use crate::Attribute;

@@ -1,4 +1,4 @@
-ghost use Rattle.std.specs.Prelude.{◌≡◌, ◌==◌, ℕ, List, Some, map};
+ghost use Rattle.std.specs.Prelude.{◌≡◌, ◌==◌, ℕ, List, Some, Ok, Err, map};
 ghost use Rattle.std.specs.List.{list_any, filter};
 ghost use Rattle.std.specs.List.Sorted.{IsStrictlySortedBy, IsPermutation};
 ghost use Rattle.std.specs.Ordering.{nat_cmp};
@@ -7,11 +7,16 @@ ghost use Rattle.aes_modes.specs.Cipher.{IsBlock};
 ghost use Rattle.aes_modes.specs.Modes.{cbc_of};
 ghost use Rattle.knx_base.specs.declared.address.GroupAddr.{GroupAddr};
 ghost use Rattle.knx_base.specs.declared.address.IndAddr.{IndAddr};
-ghost use Rattle.keyring_reader.specs.Holding.{by_group, by_device};
+ghost use Rattle.keyring_reader.specs.declared.fault.KeyringFault.{KeyringFault};
+ghost use Rattle.keyring_reader.specs.declared.keys.Wrapping.{Wrapping};
+ghost use Rattle.keyring_reader.specs.Contents.{Contents, contents_in, contents_of};
+ghost use Rattle.keyring_reader.specs.Elements.{elements_of};
+ghost use Rattle.keyring_reader.specs.Refusals.{NoneRefused, IsFirstRefusal};
+ghost use Rattle.keyring_reader.specs.Roles.{by_group, by_device, ascending};
 ghost use Rattle.keyring_reader.specs.Keys.{base64_of, stored_block, unwrapped};
-ghost use Rattle.keyring_reader.specs.Roles.{ascending};
 ghost use Rattle.keyring_reader.specs.Signed.{is_signed, by_name};
 ghost use Rattle.tag_text.specs.Names.{DifferInName};
+ghost use Rattle.tag_text.specs.declared.tag.Tag.{Tag};
 
 /// The groups, the devices and the senders that role rows are told of ascend, and are those of the list that is put in
 /// order; the names of the attributes that are signed ascend, and those are the signed ones of the tag, each once: no
@@ -27,6 +32,20 @@ pub fn lists_ascend()
         (map (λ attribute. attribute.0) (by_name attributes)) }
     ensures same_attributes { (attributes : List (List ℕ × List ℕ)) → DifferInName attributes
         → IsPermutation (filter is_signed attributes) (by_name (filter is_signed attributes)) }
+{}
+
+/// The refusal that is told is the one of the first element in the order of the document that has a cause, and the first
+/// cause of that element. Where no element has one, what the keyring says is what its elements say, each by itself and
+/// in their order.
+pub fn first_refusal_is_told()
+    ensures told { (under : Wrapping) (tags : List Tag) (why : KeyringFault) → contents_of under tags ≡ Err why
+        → IsFirstRefusal under (elements_of tags) why }
+    ensures first { (under : Wrapping) (tags : List Tag) (why : KeyringFault)
+        → IsFirstRefusal under (elements_of tags) why → contents_of under tags ≡ Err why }
+    ensures none { (under : Wrapping) (tags : List Tag) (contents : Contents) → contents_of under tags ≡ Ok contents
+        → NoneRefused under (elements_of tags) }
+    ensures said { (under : Wrapping) (tags : List Tag) → NoneRefused under (elements_of tags)
+        → contents_of under tags ≡ Ok (contents_in under (elements_of tags)) }
 {}
 
 /// A text is the base64 of one block at most, and every block has its text; a key that is unwrapped has the wrapped one

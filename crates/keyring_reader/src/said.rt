@@ -3,7 +3,8 @@
 ghost use Rattle.std.specs.Prelude.{◌≡◌, List, ◌∷◌, [], ◌++◌, Ok, IfOk, IfErr, OnOk};
 ghost use Rattle.std.specs.Option.{option_to_list};
 ghost use Rattle.knx_base.specs.declared.address.IndAddr.{IndAddr};
-ghost use Rattle.keyring_reader.specs.Contents.{device_at, group_at, key_at, words_of, devices_at, senders_at, interface_says, listing_says, group_says, tool_says, device_says, says};
+ghost use Rattle.keyring_reader.specs.Saying.{device_at, group_at, key_at, devices_at, senders_at, interface_says, listing_says, group_says, tool_says, device_says, says};
+ghost use Rattle.keyring_reader.specs.Elements.{words_of};
 ghost use Rattle.keyring_reader.specs.Keyring.{IsFault};
 
 use crate::form::required;
@@ -182,7 +183,7 @@ fn device_says(
 }
 
 /// What an element of this kind says, with these attributes at this place.
-#[tactic(auto, unfolding(crate::specs::Contents::says))]
+#[tactic(auto, unfolding(crate::specs::Saying::says))]
 pub(crate) fn says(
     alloc: Global,
     under: &Wrapping,

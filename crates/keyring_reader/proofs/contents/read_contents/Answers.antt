@@ -1,19 +1,21 @@
 use Rattle.std.proofs.Common.{[], ap, ◌∙◌, rules}
 use Rattle.keyring_reader.specs.Walk.{kind_in, innermost}
-use Rattle.keyring_reader.specs.Contents.{contents_of, contents_from}
+use Rattle.keyring_reader.specs.Contents.{contents_of}
+use Rattle.keyring_reader.specs.Saying.{contents_from}
 use Rattle.keyring_reader.specs.Keyring.{IsFault}
 use Rattle.keyring_reader.proofs.ContentsLemmas.{start_refused}
+use Rattle.keyring_reader.proofs.JudgedLemmas.{in_turn}
 use Rattle.keyring_reader.proofs.KindLemmas.{elements_within, all_within}
 use Rattle.keyring_reader.proofs.contents.read_contents.Goals as goal
 
 pub tags-init : goal.tags-init
-unfolding contents_of
 tags-init c = (
   record { rows = []; listings = [] },
   c.new-gathered.ensures,
   ap (λ opened. contents_from c.args.under.now (record { rows = []; listings = [] })
       (elements_within opened c.args.tags.now)) c.new-opened.ensures
-      ∙ ap (contents_from c.args.under.now (record { rows = []; listings = [] })) (all_within [] c.args.tags.now),
+      ∙ ap (contents_from c.args.under.now (record { rows = []; listings = [] })) (all_within [] c.args.tags.now)
+      ∙ in_turn c.args.under.now c.args.tags.now,
 )
 
 pub returns-in_err-take_element-in-Start-clause-fault : goal.returns-in_err-take_element-in-Start-clause-fault

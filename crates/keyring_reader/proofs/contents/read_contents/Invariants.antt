@@ -1,5 +1,6 @@
 use Rattle.std.proofs.Common.{◌≡◌, drop}
-use Rattle.keyring_reader.specs.Contents.{Contents, contents_from, contents_of}
+use Rattle.keyring_reader.specs.Contents.{Contents, contents_of}
+use Rattle.keyring_reader.specs.Saying.{contents_from}
 use Rattle.keyring_reader.specs.Holding.{Holds}
 use Rattle.keyring_reader.proofs.KindLemmas.{elements_within}
 use Rattle.keyring_reader.proofs.contents.read_contents.Given as goal

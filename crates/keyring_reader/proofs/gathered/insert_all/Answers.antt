@@ -2,7 +2,7 @@ use Rattle.std.proofs.Common.{get_or, ap, ◌∙◌, sym, List}
 use Rattle.std.specs.BTreeSet.{insert_key}
 use Rattle.std.proofs.lemmas.List.Sums.{fold_more}
 use Rattle.knx_base.specs.declared.address.IndAddr.{IndAddr}
-use Rattle.keyring_reader.specs.Holding.{by_device}
+use Rattle.keyring_reader.specs.Roles.{by_device}
 use Rattle.keyring_reader.proofs.gathered.insert_all.Goals as goal
 
 pub devices-preserved : goal.devices-preserved

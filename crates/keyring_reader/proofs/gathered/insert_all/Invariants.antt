@@ -1,6 +1,6 @@
 use Rattle.std.proofs.Common.{◌≡◌, fold, take}
 use Rattle.std.specs.BTreeSet.{insert_key}
-use Rattle.keyring_reader.specs.Holding.{by_device}
+use Rattle.keyring_reader.specs.Roles.{by_device}
 use Rattle.keyring_reader.proofs.gathered.insert_all.Given as goal
 
 -- those so far are in the set

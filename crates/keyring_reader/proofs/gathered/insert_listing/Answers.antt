@@ -2,7 +2,7 @@ use Rattle.std.proofs.Common.{◌≡◌, fold, [], ap, sym, ◌∙◌}
 use Rattle.std.specs.Option.{option_map, unwrap_or}
 use Rattle.std.specs.BTreeMap as tree
 use Rattle.std.specs.BTreeSet.{keys, insert_key}
-use Rattle.keyring_reader.specs.Holding.{by_group, by_device}
+use Rattle.keyring_reader.specs.Roles.{by_group, by_device}
 use Rattle.keyring_reader.proofs.ListedLemmas.{more_listed}
 use Rattle.keyring_reader.proofs.gathered.insert_listing.Goals.{in-Some, in-None}
 use Rattle.keyring_reader.proofs.gathered.insert_listing.Goals as goal

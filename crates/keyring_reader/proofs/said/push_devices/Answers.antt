@@ -2,7 +2,8 @@ use Rattle.std.proofs.Common.{◌==◌, length, sym, ◌∙◌, rules}
 use Rattle.std.specs.List.{slice_split}
 use Rattle.std.proofs.lemmas.Iterator.Consumers.{YieldsList-turn, YieldsList-end}
 use Rattle.std.proofs.lemmas.List.{length_push}
-use Rattle.keyring_reader.specs.Contents.{words_of, devices_at}
+use Rattle.keyring_reader.specs.Elements.{words_of}
+use Rattle.keyring_reader.specs.Saying.{devices_at}
 use Rattle.keyring_reader.specs.Keyring.{IsFault}
 use Rattle.keyring_reader.proofs.FaultLemmas.{is_fault}
 use Rattle.keyring_reader.proofs.SenderLemmas.{skipped, one_read, one_refused, all_read, has_octets, has_none, pieces_yielded}
