@@ -1,9 +1,12 @@
 -- The search for a block finds the one that passes.
 use Rattle.std.proofs.Common.{◌≡◌, ℕ, zero, suc, ◌+◌, ◌*◌, ◌/◌, ◌%◌, ◌^◌, ◌<◌, ◌⊎◌, inl, inr, Bool, true, false, List, [], ◌∷◌, length, Option, Some, None, refl, sym, ap, subst, ◌∙◌, arith}
 use Rattle.std.proofs.Math.Nat.{pow-succ'}
-use Rattle.std.specs.Option.{option_or}
+use Rattle.std.specs.Option.{option_or, is_some}
+use Rattle.std.specs.Str.{bytes_eq}
 use Rattle.std.proofs.lemmas.Bool.{cases_lt}
+use Rattle.std.proofs.lemmas.Slice.Eq.{bytes_eq-Decides}
 use Rattle.aes_modes.specs.Cipher.{AreOctets, IsBlock}
+use Rattle.keyring_reader.proofs.PigeonLemmas.{none_missed}
 use Rattle.keyring_reader.specs.Blocks.{octets_of, block_of, where_true, first_below, first_block}
 
 -- the number of a list of octets
@@ -141,3 +144,82 @@ below_passes test (suc n) b is = elim (last_passes (first_below test n) (test (b
 pub found_passes : (test : List ℕ → Bool) (b : List ℕ) → first_block test ≡ Some b → test b ≡ true
 unfolding first_block
 found_passes test b is = below_passes test (256 ^ 16) b is
+
+-- what is found is a block
+below_block : (test : List ℕ → Bool) (n : ℕ) (b : List ℕ) → first_below test n ≡ Some b → IsBlock b
+unfolding first_below
+below_block test zero b is = absurd cc
+below_block test (suc n) b is = elim (last_passes (first_below test n) (test (block_of n)) (block_of n) b is) [
+  | inl before ↦ below_block test n b before
+  | inr here ↦ subst IsBlock here.1 (is_block n)
+]
+
+pub found_is_block : (test : List ℕ → Bool) (b : List ℕ) → first_block test ≡ Some b → IsBlock b
+unfolding first_block
+found_is_block test b is = below_block test (256 ^ 16) b is
+
+-- ---- one of the blocks is found, where each is what a block is sent to
+
+number_of-octets : (count n : ℕ) → n < 256 ^ count → number_of (octets_of count n) ≡ n
+unfolding number_of octets_of
+number_of-octets zero n below = omega (arith, below)
+number_of-octets (suc count) n below =
+    let high : n / 256 < 256 ^ count = omega (arith, below, pow-succ' 256 count) in
+    ap (λ (rest : ℕ). n % 256 + 256 * rest) (number_of-octets count (n / 256) high) ∙ omega arith
+
+neither : (before : Option (List ℕ)) (test : Bool) (block : List ℕ) → option_or before (where_true test block) ≡ None
+    → (before ≡ None) × (test ≡ false)
+neither (Some x) test block none = absurd cc
+neither None true block none = absurd cc
+neither None false block none = (refl, refl)
+
+all_fail : (test : List ℕ → Bool) (n : ℕ) → first_below test n ≡ None → (k : ℕ) → k < n → test (block_of k) ≡ false
+unfolding first_below
+all_fail test zero none k below = absurd (omega (arith, below))
+all_fail test (suc n) none k below =
+    let parts = neither (first_below test n) (test (block_of n)) (block_of n) none in
+    elim (cases_lt k n) [
+      | inl less ↦ all_fail test n parts.0 k less
+      | inr last ↦
+          let same : k ≡ n = omega (arith, below, last) in
+          ap (λ (i : ℕ). test (block_of i)) same ∙ parts.1
+    ]
+
+-- what sends blocks to blocks, and no two to the same
+pub record Permutes (f : List ℕ → List ℕ) : Type 0 where
+  pub block : (b : List ℕ) → IsBlock b → IsBlock (f b)
+  pub once : (a b : List ℕ) → IsBlock a → IsBlock b → f a ≡ f b → a ≡ b
+
+same_number : (a b : List ℕ) → IsBlock a → IsBlock b → number_of a ≡ number_of b → a ≡ b
+same_number a b first second is =
+    sym (block_of-number a first) ∙ ap block_of is ∙ block_of-number b second
+
+never_none : (f : List ℕ → List ℕ) (target : List ℕ) → Permutes f → IsBlock target
+    → first_block (λ b. bytes_eq (f b) target) ≡ None → ⊥
+unfolding first_block
+never_none f target permutes is none =
+    none_missed (256 ^ 16) (number_of target) (λ n. number_of (f (block_of n)))
+    (λ n below. number_of_block (f (block_of n)) (permutes.block (block_of n) (is_block n)))
+    (λ m n first second same.
+    sym (number_of-octets 16 m first)
+    ∙ ap number_of (permutes.once (block_of m) (block_of n) (is_block m) (is_block n)
+    (same_number (f (block_of m)) (f (block_of n)) (permutes.block (block_of m) (is_block m))
+    (permutes.block (block_of n) (is_block n)) same))
+    ∙ number_of-octets 16 n second)
+    (number_of_block target is)
+    (λ n below same.
+    let passes : bytes_eq (f (block_of n)) target ≡ true =
+    (bytes_eq-Decides (f (block_of n)) target).1
+    (same_number (f (block_of n)) target (permutes.block (block_of n) (is_block n)) is same) in
+    let fails : bytes_eq (f (block_of n)) target ≡ false =
+    all_fail (λ b. bytes_eq (f b) target) (256 ^ 16) none n below in
+    absurd cc)
+
+there : (found : Option (List ℕ)) → (found ≡ None → ⊥) → is_some found ≡ true
+there None never = absurd (never refl)
+there (Some b) never = refl
+
+pub always_found : (f : List ℕ → List ℕ) (target : List ℕ) → Permutes f → IsBlock target
+    → is_some (first_block (λ b. bytes_eq (f b) target)) ≡ true
+always_found f target permutes is =
+    there (first_block (λ b. bytes_eq (f b) target)) (never_none f target permutes is)

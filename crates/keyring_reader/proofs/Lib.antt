@@ -1,6 +1,9 @@
 mod FaultLemmas
+mod PigeonLemmas
 mod BlockLemmas
+mod CipherLemmas
 mod StoredLemmas
+mod KeyTextLemmas
 mod TagLemmas
 mod ListLemmas
 mod FormLemmas

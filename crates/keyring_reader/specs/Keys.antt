@@ -1,10 +1,11 @@
 -- The keys of a keyring: the key that a password gives, and the keys that are stored under it. This is statement.
-use Rattle.std.specs.Prelude.{ℕ, List, codes, take, Option}
+use Rattle.std.specs.Prelude.{◌≡◌, ℕ, List, codes, take, Option}
 use Rattle.std.specs.Option.{option_and_then}
 use Rattle.std.specs.Str.{bytes_eq}
 use Rattle.base64.specs.Engines.{standard}
 use Rattle.base64.specs.GeneralPurpose.{encode_of}
 use Rattle.sha2.specs.Sha256.{sha256}
+use Rattle.aes_modes.specs.Cipher.{IsBlock}
 use Rattle.aes_modes.specs.Modes.{cbc_of}
 use Rattle.kdf_sha.specs.Pbkdf2.{pbkdf2_of}
 use Rattle.keyring_reader.specs.declared.keys.Wrapping.{Wrapping}
@@ -36,3 +37,20 @@ unwrapped key vector wrapped = first_block (λ plain. bytes_eq (cbc_of key vecto
 -- the key that is stored as this text
 abbrev pub key_named : Wrapping → List ℕ → Option (List ℕ)
 key_named under text = option_and_then (unwrapped under.key under.vector) (stored_block text)
+
+-- ---- texts of blocks and of keys
+
+-- the text is the base64 of this block
+pub record IsBlockText (block text : List ℕ) : Type 0 where
+  pub is_block : IsBlock block
+  pub encodes : base64_of block ≡ text
+
+-- a key and a vector of sixteen octets each
+pub record IsWrapping (under : Wrapping) : Type 0 where
+  pub is_key : IsBlock under.key
+  pub is_vector : IsBlock under.vector
+
+-- the text is the base64 of the CBC of this key
+pub record IsKeyText (under : Wrapping) (key text : List ℕ) : Type 0 where
+  pub is_block : IsBlock key
+  pub wraps : base64_of (cbc_of under.key under.vector key) ≡ text

@@ -1,4 +1,4 @@
-ghost use Rattle.std.specs.Prelude.{◌≡◌, ◌==◌, ℕ, List, Some, Ok, Err, map};
+ghost use Rattle.std.specs.Prelude.{◌≡◌, ◌==◌, ℕ, List, Some, IsSome, Ok, Err, map};
 ghost use Rattle.std.specs.List.{list_any, filter};
 ghost use Rattle.std.specs.List.Sorted.{IsStrictlySortedBy, IsPermutation};
 ghost use Rattle.std.specs.Ordering.{nat_cmp};
@@ -13,7 +13,7 @@ ghost use Rattle.keyring_reader.specs.Contents.{Contents, contents_in, contents_
 ghost use Rattle.keyring_reader.specs.Elements.{elements_of};
 ghost use Rattle.keyring_reader.specs.Refusals.{NoneRefused, IsFirstRefusal};
 ghost use Rattle.keyring_reader.specs.Roles.{by_group, by_device, ascending};
-ghost use Rattle.keyring_reader.specs.Keys.{base64_of, stored_block, unwrapped};
+ghost use Rattle.keyring_reader.specs.Keys.{base64_of, stored_block, unwrapped, key_named, IsBlockText, IsWrapping, IsKeyText};
 ghost use Rattle.keyring_reader.specs.Signed.{is_signed, by_name};
 ghost use Rattle.tag_text.specs.Names.{DifferInName};
 ghost use Rattle.tag_text.specs.declared.tag.Tag.{Tag};
@@ -48,11 +48,17 @@ pub fn first_refusal_is_told()
         → contents_of under tags ≡ Ok (contents_in under (elements_of tags)) }
 {}
 
-/// A text is the base64 of one block at most, and every block has its text; a key that is unwrapped has the wrapped one
-/// as its CBC.
+/// A text is the base64 of one block at most, and every block has its text. Every text of a block unwraps to exactly one
+/// key: a key is found by its own text, what is found has that text, and no text of a block is without a key.
 pub fn blocks_are_found()
     ensures encoded { (block : List ℕ) → IsBlock block → stored_block (base64_of block) ≡ Some block }
-    ensures stored { (text block : List ℕ) → stored_block text ≡ Some block → base64_of block ≡ text }
+    ensures stored { (text block : List ℕ) → stored_block text ≡ Some block → IsBlockText block text }
     ensures wrapped { (key vector wrapped plain : List ℕ) → unwrapped key vector wrapped ≡ Some plain
         → cbc_of key vector plain ≡ wrapped }
+    ensures found { (under : Wrapping) (key text : List ℕ) → IsWrapping under → IsKeyText under key text
+        → key_named under text ≡ Some key }
+    ensures only { (under : Wrapping) (key text : List ℕ) → key_named under text ≡ Some key
+        → IsKeyText under key text }
+    ensures each { (under : Wrapping) (block text : List ℕ) → IsWrapping under → IsBlockText block text
+        → IsSome (key_named under text) }
 {}
