@@ -14,6 +14,7 @@ mod HoldingLemmas
 mod KindLemmas
 mod ContentsLemmas
 mod KeyringLemmas
+mod NestingLemmas
 mod JudgedLemmas
 mod FirstLemmas
 mod NoTagLemmas

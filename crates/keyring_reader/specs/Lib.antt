@@ -5,6 +5,7 @@ pub mod Keys
 pub mod Signed
 pub mod Kinds
 pub mod Elements
+pub mod Nesting
 pub mod Refusals
 pub mod Contents
 pub mod Roles
@@ -12,4 +13,5 @@ pub mod Keyring
 pub mod Walk
 pub mod Saying
 pub mod Texts
+pub mod Shown
 pub mod Holding

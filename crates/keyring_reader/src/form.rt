@@ -5,6 +5,7 @@ ghost use Rattle.std.specs.List.{list_any, filter};
 ghost use Rattle.std.specs.Str.{bytes_eq};
 ghost use Rattle.keyring_reader.specs.Attributes.{required};
 ghost use Rattle.keyring_reader.specs.Keyring.{root_named, root_of, stamps_in, stamps_of};
+ghost use Rattle.keyring_reader.specs.Shown.{shown_root, shown_stamps};
 ghost use Rattle.keyring_reader.specs.Signed.{is_signed, is_long, is_long_attribute, is_long_start, long_at, first_long};
 
 use crate::{Attribute, KeyringFault};
@@ -83,8 +84,15 @@ fn first_long(tags: &[Tag]) -> Option<usize>
     None
 }
 
-fn root_of(tags: &[Tag]) -> Result<(&Attributes, usize), KeyringFault>
-    ensures { MatchResult result (λ root. root_of tags.now ≡ Ok (record { attributes = root.0.now; place = root.1 }))
+// The attributes of the root element, and its place.
+#[derive(Clone, Copy)]
+struct Root<'a> {
+    attributes: &'a Attributes,
+    place: usize,
+}
+
+fn root_of(tags: &[Tag]) -> Result<Root, KeyringFault>
+    ensures { MatchResult result (λ root. root_of tags.now ≡ Ok (shown_root root))
         (λ fault. root_of tags.now ≡ Err fault) }
 {
     match tags.first() {
@@ -94,31 +102,39 @@ fn root_of(tags: &[Tag]) -> Result<(&Attributes, usize), KeyringFault>
                 attributes,
                 place,
             },
-        ) if name.as_str() == "Keyring" => Ok((attributes, *place)),
+        ) if name.as_str() == "Keyring" => Ok(Root {
+            attributes,
+            place: *place,
+        }),
         _ => Err(KeyringFault::NotKeyring),
     }
 }
 
-fn stamps_in(attributes: &Attributes, place: usize) -> Result<(&str, &str), KeyringFault>
+/// When a keyring was made, and the text of its signature.
+#[derive(Clone, Copy)]
+pub(crate) struct Stamps<'a> {
+    pub(crate) created: &'a str,
+    pub(crate) signature: &'a str,
+}
+
+fn stamps_in(attributes: &Attributes, place: usize) -> Result<Stamps, KeyringFault>
     ensures { MatchResult result
-        (λ stamps. stamps_in (record { attributes = attributes.now; place = place })
-        ≡ Ok (record { created = stamps.0.now; signature = stamps.1.now }))
+        (λ stamps. stamps_in (record { attributes = attributes.now; place = place }) ≡ Ok (shown_stamps stamps))
         (λ fault. stamps_in (record { attributes = attributes.now; place = place }) ≡ Err fault) }
 {
     let created = required(attributes, Attribute::Created, place)?;
     let signature = required(attributes, Attribute::Signature, place)?;
-    Ok((created, signature))
+    Ok(Stamps { created, signature })
 }
 
-/// When the keyring was made, and the text of its signature.
-pub(crate) fn stamps_of(tags: &[Tag]) -> Result<(&str, &str), KeyringFault>
-    ensures { MatchResult result
-        (λ stamps. stamps_of tags.now ≡ Ok (record { created = stamps.0.now; signature = stamps.1.now }))
+/// The stamps of a keyring that is in form.
+pub(crate) fn stamps_of(tags: &[Tag]) -> Result<Stamps, KeyringFault>
+    ensures { MatchResult result (λ stamps. stamps_of tags.now ≡ Ok (shown_stamps stamps))
         (λ fault. stamps_of tags.now ≡ Err fault) }
 {
-    let (attributes, place) = root_of(tags)?;
+    let root = root_of(tags)?;
     match first_long(tags) {
         Some(place) => Err(KeyringFault::LongText(place)),
-        None => stamps_in(attributes, place),
+        None => stamps_in(root.attributes, root.place),
     }
 }

@@ -2,10 +2,11 @@ ghost use Rattle.std.specs.Prelude.{◌≡◌, ◌≢◌, Ok, IfOk, IfErr, Match
 ghost use Rattle.key_tables.specs.Build.{NoneTwice};
 ghost use Rattle.keyring_reader.specs.Keys.{password_key};
 ghost use Rattle.keyring_reader.specs.Keyring.{is_computed, signature_fault, wrapping_of, keyring_under, keyring_of, IsFault};
+ghost use Rattle.keyring_reader.specs.Shown.{shown_stamps};
 
 use crate::KeyringFault;
 use crate::contents::read_contents;
-use crate::form::stamps_of;
+use crate::form::{Stamps, stamps_of};
 use crate::keys::{Wrapping, password_key, short_hash, stored_block};
 use crate::roles::rows_of;
 use crate::signature::signature_of;
@@ -56,20 +57,17 @@ fn wrapping_of(
     alloc: Global,
     key: [u8; 16],
     tags: &[Tag],
-    created: &str,
-    signature: &str,
+    stamps: &Stamps,
 ) -> Result<Wrapping, KeyringFault>
-    ensures wrapping { IfOk result (λ under. wrapping_of key tags.now
-        (record { created = created.now; signature = signature.now }) ≡ Ok under) }
-    ensures fault { IfErr result (λ fault. IsFault fault (wrapping_of key tags.now
-        (record { created = created.now; signature = signature.now }))) }
+    ensures wrapping { IfOk result (λ under. wrapping_of key tags.now (shown_stamps stamps.now) ≡ Ok under) }
+    ensures fault { IfErr result (λ fault. IsFault fault (wrapping_of key tags.now (shown_stamps stamps.now))) }
 {
     let computed = signature_of(alloc, tags, &key)?;
-    match signature_fault(stored_block(signature), computed) {
+    match signature_fault(stored_block(stamps.signature), computed) {
         Some(fault) => Err(fault),
         None => Ok(Wrapping {
             key: Key128::new(key),
-            vector: short_hash(created.as_bytes()),
+            vector: short_hash(stamps.created.as_bytes()),
         }),
     }
 }
@@ -84,8 +82,8 @@ pub(crate) fn keyring_under(
     ensures once { IfOk result (λ keyring. NoneTwice keyring) }
     ensures fault { IfErr result (λ fault. IsFault fault (keyring_under key tags.now)) }
 {
-    let (created, signature) = stamps_of(tags)?;
-    let under = wrapping_of(alloc, key, tags, created, signature)?;
+    let stamps = stamps_of(tags)?;
+    let under = wrapping_of(alloc, key, tags, &stamps)?;
     let gathered = read_contents(alloc, &under, tags)?;
     let rows = rows_of(gathered)?;
     Ok(Keyring { rows })

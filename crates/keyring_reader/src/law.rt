@@ -1,4 +1,4 @@
-ghost use Rattle.std.specs.Prelude.{◌≡◌, ◌==◌, ℕ, List, Some, IsSome, Ok, Err, map};
+ghost use Rattle.std.specs.Prelude.{◌≡◌, ◌==◌, ℕ, List, [], Some, IsSome, Ok, Err, map};
 ghost use Rattle.std.specs.List.{list_any, filter};
 ghost use Rattle.std.specs.List.Sorted.{IsStrictlySortedBy, IsPermutation};
 ghost use Rattle.std.specs.Ordering.{nat_cmp};
@@ -11,10 +11,12 @@ ghost use Rattle.keyring_reader.specs.declared.fault.KeyringFault.{KeyringFault}
 ghost use Rattle.keyring_reader.specs.declared.keys.Wrapping.{Wrapping};
 ghost use Rattle.keyring_reader.specs.Contents.{Contents, contents_in, contents_of};
 ghost use Rattle.keyring_reader.specs.Elements.{elements_of};
+ghost use Rattle.keyring_reader.specs.Nesting.{IsTree};
 ghost use Rattle.keyring_reader.specs.Refusals.{NoneRefused, IsFirstRefusal};
 ghost use Rattle.keyring_reader.specs.Roles.{by_group, by_device, ascending};
 ghost use Rattle.keyring_reader.specs.Keys.{base64_of, stored_block, unwrapped, key_named, IsBlockText, IsWrapping, IsKeyText};
 ghost use Rattle.keyring_reader.specs.Signed.{is_signed, by_name};
+ghost use Rattle.tag_text.specs.Elements.{IsWhole};
 ghost use Rattle.tag_text.specs.Names.{DifferInName};
 ghost use Rattle.tag_text.specs.declared.tag.Tag.{Tag};
 
@@ -32,6 +34,11 @@ pub fn lists_ascend()
         (map (λ attribute. attribute.0) (by_name attributes)) }
     ensures same_attributes { (attributes : List (List ℕ × List ℕ)) → DifferInName attributes
         → IsPermutation (filter is_signed attributes) (by_name (filter is_signed attributes)) }
+{}
+
+/// The elements of a whole document are those of its tree, each with the names and attributes of those that it stands in.
+pub fn elements_are_nested()
+    ensures { (octets : List ℕ) (tags : List Tag) → IsWhole octets tags → IsTree [] tags (elements_of tags) }
 {}
 
 /// The refusal that is told is the one of the first element in the order of the document that has a cause, and the first

@@ -21,4 +21,4 @@ mod tests;
 pub use attribute::Attribute;
 pub use fault::KeyringFault;
 pub use keyring::{Keyring, read_keyring};
-pub use law::{blocks_are_found, first_refusal_is_told, lists_ascend};
+pub use law::{blocks_are_found, elements_are_nested, first_refusal_is_told, lists_ascend};
