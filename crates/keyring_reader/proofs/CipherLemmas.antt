@@ -1,12 +1,12 @@
 -- The CBC of one block is a block, and no two blocks have the same.
-use Rattle.std.proofs.Common.{◌≡◌, ℕ, zero, suc, ◌+◌, ◌*◌, ◌/◌, ◌%◌, ◌≤◌, ◌<◌, List, length, slice_index, refl, sym, ap, subst, ◌∙◌, arith}
+use Rattle.std.proofs.Common.{◌≡◌, ℕ, zero, suc, ◌+◌, ◌*◌, ◌/◌, ◌%◌, ◌≤◌, ◌<◌, List, length, slice_index, sym, ap, subst, ◌∙◌, arith}
 use Rattle.aes_modes.specs.Octet.{sub_byte}
 use Rattle.aes_modes.specs.Cipher.{entry, IsBlock, xor_blocks, sub_bytes, shift_rows, last_round, key_expansion, rounds, cipher}
 use Rattle.aes_modes.specs.Modes.{block_at, chained, cbc_of}
 use Rattle.aes_modes.proofs.Computed.{sub_byte-lt}
 use Rattle.aes_modes.proofs.Squares.{IsBlock_square, IsBlock_xor_blocks, IsBlock_key_expansion, xor_blocks_cancel, same_blocks}
 use Rattle.aes_modes.proofs.Injective.{IsBlock_rounds, round_injective, last_round_injective}
-use Rattle.aes_modes.proofs.Chaining.{block_at-at, length-block_at, length-cipher, chained_next, length-chained, length-cbc_of, cbc_of-at}
+use Rattle.aes_modes.proofs.Chaining.{block_at-at, length-block_at, length-cipher, chained_next, length-cbc_of, cbc_of-at}
 
 -- ---- the cipher of a block
 
@@ -16,7 +16,8 @@ IsBlock_last s k is is_key =
     let substituted : IsBlock (sub_bytes s) =
     IsBlock_square (λ r c. sub_byte (entry s r c)) (λ r c _ _. sub_byte-lt (entry s r c) (is.octets (r + 4 * c))) in
     IsBlock_xor_blocks (shift_rows (sub_bytes s)) k
-    (IsBlock_square (λ r c. entry (sub_bytes s) r ((c + r) % 4)) (λ r c _ _. substituted.octets (r + 4 * ((c + r) % 4))))
+    (IsBlock_square (λ r c. entry (sub_bytes s) r ((c + r) % 4))
+    (λ r c _ _. substituted.octets (r + 4 * ((c + r) % 4))))
     is_key
 
 IsBlock_cipher : (k b : List ℕ) → IsBlock k → IsBlock b → IsBlock (cipher k b)
@@ -25,14 +26,16 @@ IsBlock_cipher k b is_key is =
     IsBlock_last (rounds k b 9) (key_expansion k 10) (IsBlock_rounds k b is_key is 9 (omega arith))
     (IsBlock_key_expansion k is_key 10 (omega arith))
 
-rounds_once : (k a b : List ℕ) → IsBlock k → IsBlock a → IsBlock b → (n : ℕ) → n ≤ 9 → rounds k a n ≡ rounds k b n → a ≡ b
+rounds_once : (k a b : List ℕ) → IsBlock k → IsBlock a → IsBlock b → (n : ℕ) → n ≤ 9
+    → rounds k a n ≡ rounds k b n → a ≡ b
 unfolding rounds
 rounds_once k a b is_key first second zero few is =
     xor_blocks_cancel a b (key_expansion k 0) first.length second.length is
 rounds_once k a b is_key first second (suc n) few is =
     rounds_once k a b is_key first second n (omega (arith, few))
     (round_injective (rounds k a n) (rounds k b n) (key_expansion k (suc n))
-    (IsBlock_rounds k a is_key first n (omega (arith, few))) (IsBlock_rounds k b is_key second n (omega (arith, few))) is)
+    (IsBlock_rounds k a is_key first n (omega (arith, few)))
+    (IsBlock_rounds k b is_key second n (omega (arith, few))) is)
 
 cipher_once : (k a b : List ℕ) → IsBlock k → IsBlock a → IsBlock b → cipher k a ≡ cipher k b → a ≡ b
 unfolding cipher
@@ -62,13 +65,15 @@ at_place k v b i less =
 cbc_is : (k v b : List ℕ) → IsBlock b → cbc_of k v b ≡ cipher k (xor_blocks b v)
 cbc_is k v b is =
     let long : length b ≡ 16 = is.length in
-    same_blocks (cbc_of k v b) (cipher k (xor_blocks b v)) (length-cbc_of k v b ∙ long) (length-cipher k (xor_blocks b v))
+    same_blocks (cbc_of k v b) (cipher k (xor_blocks b v)) (length-cbc_of k v b ∙ long)
+    (length-cipher k (xor_blocks b v))
     (λ i less. cbc_of-at k v b i (omega (arith, less, long)) ∙ at_place k v b i less
     ∙ ap (λ (c : List ℕ). slice_index c i) (first_chained k v b is))
 
 pub cbc_block : (k v b : List ℕ) → IsBlock k → IsBlock v → IsBlock b → IsBlock (cbc_of k v b)
 cbc_block k v b is_key is_vector is =
-    subst IsBlock (sym (cbc_is k v b is)) (IsBlock_cipher k (xor_blocks b v) is_key (IsBlock_xor_blocks b v is is_vector))
+    subst IsBlock (sym (cbc_is k v b is))
+    (IsBlock_cipher k (xor_blocks b v) is_key (IsBlock_xor_blocks b v is is_vector))
 
 pub cbc_once : (k v a b : List ℕ) → IsBlock k → IsBlock v → IsBlock a → IsBlock b → cbc_of k v a ≡ cbc_of k v b → a ≡ b
 cbc_once k v a b is_key is_vector first second is =

@@ -8,7 +8,7 @@ use Rattle.keyring_reader.specs.declared.fault.KeyringFault.TheVariants as fault
 use Rattle.keyring_reader.specs.declared.keys.Wrapping.{Wrapping}
 use Rattle.keyring_reader.specs.declared.kind.Kind.{Kind}
 use Rattle.keyring_reader.specs.Walk.{kind_in, innermost}
-use Rattle.keyring_reader.specs.Answers.{◌>>=◌}
+use Rattle.keyring_reader.specs.Chain.{◌>>=◌}
 use Rattle.keyring_reader.specs.Elements.{Element}
 use Rattle.keyring_reader.specs.Contents.{Contents}
 use Rattle.keyring_reader.specs.Saying.{with_element, contents_from}

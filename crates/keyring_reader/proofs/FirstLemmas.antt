@@ -1,5 +1,5 @@
 -- The refusal that is told is the first.
-use Rattle.std.proofs.Common.{◌≡◌, ℕ, List, [], ◌∷◌, ◌++◌, Option, Some, None, Result, Ok, Err, refl, sym, ap, ◌∙◌, append-nil}
+use Rattle.std.proofs.Common.{◌≡◌, List, [], ◌∷◌, ◌++◌, Option, Some, None, Ok, Err, refl, sym, ap, ◌∙◌, append-nil}
 use Rattle.std.specs.Option.{option_or}
 use Rattle.std.specs.List.{All}
 use Rattle.std.proofs.lemmas.List.{append_assoc}
@@ -8,7 +8,7 @@ use Rattle.tag_text.specs.declared.tag.Tag.{Tag}
 use Rattle.key_tables.specs.First.{first_of}
 use Rattle.keyring_reader.specs.declared.fault.KeyringFault.{KeyringFault}
 use Rattle.keyring_reader.specs.declared.keys.Wrapping.{Wrapping}
-use Rattle.keyring_reader.specs.Answers.{unless}
+use Rattle.keyring_reader.specs.Chain.{unless}
 use Rattle.keyring_reader.specs.Elements.{Element, elements_of}
 use Rattle.keyring_reader.specs.Refusals.{causes, first_cause, element_fault, first_refusal, NoneRefused, IsFirstCause, IsFirstRefusal}
 use Rattle.keyring_reader.specs.Contents.{Contents, contents_in, contents_of}
@@ -203,7 +203,8 @@ none_refused : (under : Wrapping) (elements : List Element) → first_refusal un
     → NoneRefused under elements
 unfolding first_refusal
 none_refused under elements is = λ before after element parts.
-    none_holds (causes under before element) (none_fails (element_fault under) [] elements is before after element parts)
+    none_holds (causes under before element)
+    (none_fails (element_fault under) [] elements is before after element parts)
 
 refused_none : (under : Wrapping) (elements : List Element) → NoneRefused under elements
     → first_refusal under elements ≡ None

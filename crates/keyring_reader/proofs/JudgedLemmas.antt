@@ -1,6 +1,6 @@
 -- What elements say, taken one after the other, is what each says by itself, up to the first that is refused.
 use Rattle.std.proofs.Common.{◌≡◌, ℕ, Bool, true, false, cond, ◌&&◌, codes, List, [], ◌∷◌, ◌++◌, Option, Some, None, Result, Ok, Err, refl, sym, ap, ◌∙◌, append-nil, filter_map}
-use Rattle.std.specs.Option.{ok_or, option_or, option_map, option_and_then, option_zip, option_to_list, is_some, unwrap_or}
+use Rattle.std.specs.Option.{ok_or, option_or, option_map, option_and_then, option_zip, option_to_list, is_some}
 use Rattle.std.specs.List.{list_all, cons_option}
 use Rattle.std.proofs.lemmas.List.{append_assoc}
 use Rattle.std.proofs.lemmas.List.Elements.{filter_map-append}
@@ -22,7 +22,7 @@ use Rattle.keyring_reader.specs.declared.kind.Kind.{Kind}
 use Rattle.keyring_reader.specs.declared.kind.Kind.TheVariants as kind
 use Rattle.keyring_reader.specs.declared.said.Listing.{Listing}
 use Rattle.keyring_reader.specs.declared.said.Said.TheVariants.{Nothing, GroupKey, ToolKey, Lists}
-use Rattle.keyring_reader.specs.Answers.{◌>>=◌, unless}
+use Rattle.keyring_reader.specs.Chain.{◌>>=◌, unless}
 use Rattle.keyring_reader.specs.Attributes.{name_of}
 use Rattle.keyring_reader.specs.Keys.{key_named}
 use Rattle.keyring_reader.specs.Kinds.{device_named, group_named}

@@ -4,7 +4,7 @@ use Rattle.tag_text.specs.declared.tag.Tag.{Tag}
 use Rattle.key_tables.specs.declared.types.Row.{Row}
 use Rattle.keyring_reader.specs.declared.fault.KeyringFault.{KeyringFault}
 use Rattle.keyring_reader.specs.declared.keys.Wrapping.{Wrapping}
-use Rattle.keyring_reader.specs.Answers.{◌>>=◌}
+use Rattle.keyring_reader.specs.Chain.{◌>>=◌}
 use Rattle.keyring_reader.specs.Contents.{Contents, contents_of}
 use Rattle.keyring_reader.specs.Keys.{password_key}
 use Rattle.keyring_reader.specs.Roles.{rows_of}

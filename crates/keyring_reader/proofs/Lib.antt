@@ -3,6 +3,7 @@ mod PigeonLemmas
 mod BlockLemmas
 mod CipherLemmas
 mod StoredLemmas
+mod WrappingLemmas
 mod KeyTextLemmas
 mod TagLemmas
 mod ListLemmas

@@ -1,10 +1,9 @@
 -- The elements that tags begin are those of the tree.
-use Rattle.std.proofs.Common.{◌≡◌, ℕ, suc, ◌-◌, List, [], ◌∷◌, ◌++◌, length, refl, sym, ap, subst, ◌∙◌, append-nil}
+use Rattle.std.proofs.Common.{◌≡◌, ℕ, List, [], ◌∷◌, ◌++◌, refl, sym, ap, subst, ◌∙◌, append-nil}
 use Rattle.std.proofs.lemmas.List.{append_assoc}
-use Rattle.tag_text.specs.Grammar.{IsTag, IsEndTag, IsPiece}
 use Rattle.tag_text.specs.Elements.{IsElement, Alone, Around, IsContent, Nothing, Skips, Has, IsWhole}
 use Rattle.tag_text.specs.declared.tag.Tag.{Tag}
-use Rattle.tag_text.specs.declared.tag.Tag.TheVariants.{Start, End}
+use Rattle.tag_text.specs.declared.tag.Tag.TheVariants.{End}
 use Rattle.keyring_reader.specs.Kinds.{Named, kind_at}
 use Rattle.keyring_reader.specs.Elements.{Element, elements_in, elements_of}
 use Rattle.keyring_reader.specs.Nesting.{IsTree, Tree, AreTrees, NoTrees, MoreTrees}
@@ -18,8 +17,8 @@ mutual
       ap (λ (left : List Tag). element ∷ elements_in (own ∷ outer) left) (append_assoc tags (End end ∷ []) later)
       ∙ ap (λ (rest : List Element). element ∷ rest) (trees_in (End end ∷ later) trees)
 
-  trees_in : {outer : List Named} {tags : List Tag} {these : List Element} (later : List Tag) → AreTrees outer tags these
-      → elements_in outer (tags ++ later) ≡ these ++ elements_in outer later
+  trees_in : {outer : List Named} {tags : List Tag} {these : List Element} (later : List Tag)
+      → AreTrees outer tags these → elements_in outer (tags ++ later) ≡ these ++ elements_in outer later
   trees_in later NoTrees = refl
   trees_in later (MoreTrees {outer = outer} {tags = tags} {later = more} {these = these} {others = others} tree trees) =
       ap (elements_in outer) (append_assoc tags more later)
@@ -36,7 +35,8 @@ HaveTrees outer tags = (these : List Element) × AreTrees outer tags these
 mutual
   of_element : {total levels : ℕ} {text rest : List ℕ} {tags : List Tag} (outer : List Named)
       → IsElement total levels text rest tags → HasTree outer tags
-  of_element outer (Alone {name = name} {attributes = attributes} tag) = (_, Tree (record { name = name; attributes = attributes }) _ _ NoTrees)
+  of_element outer (Alone {name = name} {attributes = attributes} tag) =
+      (_, Tree (record { name = name; attributes = attributes }) _ _ NoTrees)
   of_element outer (Around {name = name} {attributes = attributes} tag content end) =
       let own : Named = record { name = name; attributes = attributes } in
       let inner = of_content (own ∷ outer) content in

@@ -18,7 +18,7 @@ use Rattle.keyring_reader.specs.declared.kind.Kind.TheVariants as kind
 use Rattle.keyring_reader.specs.declared.said.Said.{Said}
 use Rattle.keyring_reader.specs.declared.said.Said.TheVariants.{Nothing, GroupKey, ToolKey, Lists}
 use Rattle.keyring_reader.specs.Attributes.{name_of}
-use Rattle.keyring_reader.specs.Answers.{◌>>=◌}
+use Rattle.keyring_reader.specs.Chain.{◌>>=◌}
 use Rattle.keyring_reader.specs.Elements.{Element, words_of}
 use Rattle.keyring_reader.specs.Contents.{Contents, contents_of}
 use Rattle.keyring_reader.specs.Saying.{device_at, group_at, key_at, devices_at, senders_at, tool_says, address_says, said_of, says, taken, with_element, contents_from}
@@ -26,7 +26,7 @@ use Rattle.keyring_reader.specs.Signed.{first_long, signature_of}
 use Rattle.keyring_reader.specs.Keys.{stored_block, key_named}
 use Rattle.keyring_reader.specs.Kinds.{device_named, group_named}
 use Rattle.keyring_reader.specs.Keyring.{Root, Stamps, root_of, stamps_in, stamps_of, is_computed, wrapping_of, keyring_under, IsFault}
-use Rattle.keyring_reader.specs.Answers.{unless}
+use Rattle.keyring_reader.specs.Chain.{unless}
 use Rattle.keyring_reader.proofs.JudgedLemmas.{in_turn}
 
 abbrev IsOwn : KeyringFault → Type 0

@@ -22,7 +22,7 @@ use Rattle.keyring_reader.specs.declared.keys.Wrapping.{Wrapping}
 use Rattle.keyring_reader.specs.declared.said.Listing.{Listing}
 use Rattle.keyring_reader.specs.declared.said.Said.{Said}
 use Rattle.keyring_reader.specs.declared.said.Said.TheVariants.{Nothing, GroupKey, ToolKey, Lists}
-use Rattle.keyring_reader.specs.Answers.{◌>>=◌}
+use Rattle.keyring_reader.specs.Chain.{◌>>=◌}
 use Rattle.keyring_reader.specs.Elements.{Element, elements_in}
 use Rattle.keyring_reader.specs.Contents.{Contents, contents_of}
 use Rattle.keyring_reader.specs.Saying.{says, taken, with_key, with_element, contents_from}

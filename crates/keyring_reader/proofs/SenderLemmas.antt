@@ -10,7 +10,7 @@ use Rattle.std.proofs.lemmas.Bool.{eqb-true}
 use Rattle.std.proofs.lemmas.List.{drop_more, drop_all}
 use Rattle.knx_base.specs.declared.address.IndAddr.{IndAddr}
 use Rattle.keyring_reader.specs.declared.fault.KeyringFault.{KeyringFault}
-use Rattle.keyring_reader.specs.Answers.{◌>>=◌}
+use Rattle.keyring_reader.specs.Chain.{◌>>=◌}
 use Rattle.keyring_reader.specs.Saying.{device_at, devices_at}
 use Rattle.keyring_reader.specs.Elements.{is_word}
 

@@ -9,7 +9,7 @@ use Rattle.tag_text.specs.Document.{Left, outcome_of, events_of}
 use Rattle.tag_text.specs.Reader.{Gives}
 use Rattle.tag_text.specs.Scan.{after_tags, only}
 use Rattle.keyring_reader.specs.declared.fault.KeyringFault.TheVariants as fault
-use Rattle.keyring_reader.specs.Answers.{unless}
+use Rattle.keyring_reader.specs.Chain.{unless}
 use Rattle.keyring_reader.specs.Keyring.{tag_fault, tags_of, IsFault}
 
 -- the fault that ends the document

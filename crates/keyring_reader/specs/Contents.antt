@@ -5,7 +5,7 @@ use Rattle.key_tables.specs.declared.types.Row.{Row}
 use Rattle.keyring_reader.specs.declared.fault.KeyringFault.{KeyringFault}
 use Rattle.keyring_reader.specs.declared.said.Listing.{Listing}
 use Rattle.keyring_reader.specs.declared.keys.Wrapping.{Wrapping}
-use Rattle.keyring_reader.specs.Answers.{unless}
+use Rattle.keyring_reader.specs.Chain.{unless}
 use Rattle.keyring_reader.specs.Elements.{Element, elements_of, key_rows, listings_in}
 use Rattle.keyring_reader.specs.Refusals.{first_refusal}
 

@@ -1,5 +1,5 @@
 -- The elements of a keyring in the order of the document, and what each says by itself. This is statement.
-use Rattle.std.specs.Prelude.{ℕ, ◌==◌, not, Bool, List, [], ◌∷◌, ◌++◌, codes, Option, Some, None}
+use Rattle.std.specs.Prelude.{ℕ, ◌==◌, not, Bool, List, [], ◌∷◌, ◌++◌, codes, Option, None}
 use Rattle.std.specs.Option.{option_map, option_and_then, option_zip, option_to_list, unwrap_or}
 use Rattle.std.specs.List.{filter, filter_map, slice_split}
 use Rattle.knx_base.specs.declared.address.GroupAddr.{GroupAddr}
@@ -75,9 +75,11 @@ sender_words element = words_of (unwrap_or (text_of (codes "Senders") element) [
 -- the key row of a group, or of a device with a tool key
 abbrev pub key_row_of : Kind → Wrapping → Element → Option Row
 key_row_of kind.GroupKey under element =
-    option_map (λ both. row.Group both.0 both.1 Auth) (option_zip (group_in element) (key_in under (codes "Key") element))
+    option_map (λ both. row.Group both.0 both.1 Auth)
+    (option_zip (group_in element) (key_in under (codes "Key") element))
 key_row_of kind.Device under element =
-    option_map (λ both. row.Tool both.0 both.1) (option_zip (device_in element) (key_in under (codes "ToolKey") element))
+    option_map (λ both. row.Tool both.0 both.1)
+    (option_zip (device_in element) (key_in under (codes "ToolKey") element))
 key_row_of _ under element = None
 
 -- an interface lists a group, with its own address, if it has one, and then the senders that it names

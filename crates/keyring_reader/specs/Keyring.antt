@@ -12,7 +12,7 @@ use Rattle.keyring_reader.specs.declared.attribute.Attribute.TheVariants.{Create
 use Rattle.keyring_reader.specs.declared.fault.KeyringFault.{KeyringFault}
 use Rattle.keyring_reader.specs.declared.fault.KeyringFault.TheVariants as fault
 use Rattle.keyring_reader.specs.Attributes.{required}
-use Rattle.keyring_reader.specs.Answers.{◌>>=◌, unless}
+use Rattle.keyring_reader.specs.Chain.{◌>>=◌, unless}
 use Rattle.keyring_reader.specs.Contents.{contents_of}
 use Rattle.keyring_reader.specs.declared.keys.Wrapping.{Wrapping}
 use Rattle.keyring_reader.specs.Keys.{stored_block, password_key, short_hash}

@@ -1,4 +1,4 @@
-pub mod Answers
+pub mod Chain
 pub mod Attributes
 pub mod Blocks
 pub mod Keys

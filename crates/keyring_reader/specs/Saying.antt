@@ -18,7 +18,7 @@ use Rattle.keyring_reader.specs.declared.said.Said.TheVariants.{Nothing, GroupKe
 use Rattle.keyring_reader.specs.declared.keys.Wrapping.{Wrapping}
 use Rattle.keyring_reader.specs.declared.kind.Kind.{Kind}
 use Rattle.keyring_reader.specs.declared.kind.Kind.TheVariants as kind
-use Rattle.keyring_reader.specs.Answers.{◌>>=◌}
+use Rattle.keyring_reader.specs.Chain.{◌>>=◌}
 use Rattle.keyring_reader.specs.Attributes.{name_of, required}
 use Rattle.keyring_reader.specs.Keys.{key_named}
 use Rattle.keyring_reader.specs.Kinds.{device_named, group_named}

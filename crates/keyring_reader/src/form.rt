@@ -6,7 +6,8 @@ ghost use Rattle.std.specs.Str.{bytes_eq};
 ghost use Rattle.keyring_reader.specs.Attributes.{required};
 ghost use Rattle.keyring_reader.specs.Keyring.{root_named, root_of, stamps_in, stamps_of};
 ghost use Rattle.keyring_reader.specs.Shown.{shown_root, shown_stamps};
-ghost use Rattle.keyring_reader.specs.Signed.{is_signed, is_long, is_long_attribute, is_long_start, long_at, first_long};
+ghost use Rattle.keyring_reader.specs.Signed.{is_signed, is_long, is_long_attribute};
+ghost use Rattle.keyring_reader.specs.Signed.{is_long_start, long_at, first_long};
 
 use crate::{Attribute, KeyringFault};
 use tag_text::{Attributes, Tag};

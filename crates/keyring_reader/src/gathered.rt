@@ -6,7 +6,8 @@ ghost use Rattle.std.specs.BTreeSet.{insert_key, keys};
 ghost use Rattle.keyring_reader.specs.declared.said.Listing.{Listing};
 ghost use Rattle.keyring_reader.specs.Contents.{Contents};
 ghost use Rattle.keyring_reader.specs.Saying.{with_key, taken};
-ghost use Rattle.keyring_reader.specs.Roles.{commands, roles_by, group_roles, device_role, rows_of, by_group, by_device};
+ghost use Rattle.keyring_reader.specs.Roles.{commands, roles_by, group_roles, device_role};
+ghost use Rattle.keyring_reader.specs.Roles.{rows_of, by_group, by_device};
 ghost use Rattle.keyring_reader.specs.Holding.{AreListed, Holds};
 ghost use Rattle.keyring_reader.specs.Keyring.{IsFault};
 

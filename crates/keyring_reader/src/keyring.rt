@@ -1,7 +1,8 @@
 ghost use Rattle.std.specs.Prelude.{◌≡◌, ◌≢◌, Ok, IfOk, IfErr, MatchResult, Err};
 ghost use Rattle.key_tables.specs.Build.{NoneTwice};
 ghost use Rattle.keyring_reader.specs.Keys.{password_key};
-ghost use Rattle.keyring_reader.specs.Keyring.{is_computed, signature_fault, wrapping_of, keyring_under, keyring_of, IsFault};
+ghost use Rattle.keyring_reader.specs.Keyring.{is_computed, signature_fault, wrapping_of};
+ghost use Rattle.keyring_reader.specs.Keyring.{keyring_under, keyring_of, IsFault};
 ghost use Rattle.keyring_reader.specs.Shown.{shown_stamps};
 
 use crate::KeyringFault;

@@ -14,7 +14,8 @@ ghost use Rattle.keyring_reader.specs.Elements.{elements_of};
 ghost use Rattle.keyring_reader.specs.Nesting.{IsTree};
 ghost use Rattle.keyring_reader.specs.Refusals.{NoneRefused, IsFirstRefusal};
 ghost use Rattle.keyring_reader.specs.Roles.{by_group, by_device, ascending};
-ghost use Rattle.keyring_reader.specs.Keys.{base64_of, stored_block, unwrapped, key_named, IsBlockText, IsWrapping, IsKeyText};
+ghost use Rattle.keyring_reader.specs.Keys.{base64_of, stored_block, unwrapped, key_named, password_key};
+ghost use Rattle.keyring_reader.specs.Keys.{short_hash, IsBlockText, IsWrapping, IsKeyText};
 ghost use Rattle.keyring_reader.specs.Signed.{is_signed, by_name};
 ghost use Rattle.tag_text.specs.Elements.{IsWhole};
 ghost use Rattle.tag_text.specs.Names.{DifferInName};
@@ -36,27 +37,28 @@ pub fn lists_ascend()
         → IsPermutation (filter is_signed attributes) (by_name (filter is_signed attributes)) }
 {}
 
-/// The elements of a whole document are those of its tree, each with the names and attributes of those that it stands in.
+/// The elements of a whole document are those of its tree, each with the names and attributes of those that it stands
+/// in.
 pub fn elements_are_nested()
     ensures { (octets : List ℕ) (tags : List Tag) → IsWhole octets tags → IsTree [] tags (elements_of tags) }
 {}
 
-/// The refusal that is told is the one of the first element in the order of the document that has a cause, and the first
-/// cause of that element. Where no element has one, what the keyring says is what its elements say, each by itself and
-/// in their order.
+/// The refusal that is told is the first cause of the first element, in the order of the document, that has one. Where
+/// no element has one, what the keyring says is what its elements say, each by itself and in their order.
 pub fn first_refusal_is_told()
-    ensures told { (under : Wrapping) (tags : List Tag) (why : KeyringFault) → contents_of under tags ≡ Err why
-        → IsFirstRefusal under (elements_of tags) why }
+    ensures told { (under : Wrapping) (tags : List Tag) (why : KeyringFault)
+        → contents_of under tags ≡ Err why → IsFirstRefusal under (elements_of tags) why }
     ensures first { (under : Wrapping) (tags : List Tag) (why : KeyringFault)
         → IsFirstRefusal under (elements_of tags) why → contents_of under tags ≡ Err why }
-    ensures none { (under : Wrapping) (tags : List Tag) (contents : Contents) → contents_of under tags ≡ Ok contents
-        → NoneRefused under (elements_of tags) }
+    ensures none { (under : Wrapping) (tags : List Tag) (contents : Contents)
+        → contents_of under tags ≡ Ok contents → NoneRefused under (elements_of tags) }
     ensures said { (under : Wrapping) (tags : List Tag) → NoneRefused under (elements_of tags)
         → contents_of under tags ≡ Ok (contents_in under (elements_of tags)) }
 {}
 
-/// A text is the base64 of one block at most, and every block has its text. Every text of a block unwraps to exactly one
-/// key: a key is found by its own text, what is found has that text, and no text of a block is without a key.
+/// A text is the base64 of one block at most, and every block has its text. Every text of a block unwraps to exactly
+/// one key: a key is found by its own text, what is found has that text, and no text of a block is without a key. So it
+/// is with what any password and any text of `Created` give.
 pub fn blocks_are_found()
     ensures encoded { (block : List ℕ) → IsBlock block → stored_block (base64_of block) ≡ Some block }
     ensures stored { (text block : List ℕ) → stored_block text ≡ Some block → IsBlockText block text }
@@ -68,4 +70,6 @@ pub fn blocks_are_found()
         → IsKeyText under key text }
     ensures each { (under : Wrapping) (block text : List ℕ) → IsWrapping under → IsBlockText block text
         → IsSome (key_named under text) }
+    ensures wraps { (password created : List ℕ)
+        → IsWrapping (record { key = password_key password; vector = short_hash created }) }
 {}

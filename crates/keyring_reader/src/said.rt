@@ -3,7 +3,8 @@
 ghost use Rattle.std.specs.Prelude.{◌≡◌, List, ◌∷◌, [], ◌++◌, Ok, IfOk, IfErr, OnOk};
 ghost use Rattle.std.specs.Option.{option_to_list};
 ghost use Rattle.knx_base.specs.declared.address.IndAddr.{IndAddr};
-ghost use Rattle.keyring_reader.specs.Saying.{device_at, group_at, key_at, devices_at, senders_at, interface_says, listing_says, group_says, tool_says, device_says, says};
+ghost use Rattle.keyring_reader.specs.Saying.{device_at, group_at, key_at, devices_at, senders_at, interface_says};
+ghost use Rattle.keyring_reader.specs.Saying.{listing_says, group_says, tool_says, device_says, says};
 ghost use Rattle.keyring_reader.specs.Elements.{words_of};
 ghost use Rattle.keyring_reader.specs.Keyring.{IsFault};
 
