@@ -1,8 +1,10 @@
 mod Firsts
 mod Adding
-mod Expanding
 mod TextLemmas
 pub mod Unique
+pub mod KeyOrder
+mod KeySets
+mod Indexing
 mod Merging
 pub mod Standing
 pub mod LaneOrder

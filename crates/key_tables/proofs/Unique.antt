@@ -66,7 +66,7 @@ same_is (channel.Tool a) (channel.Tool b) h = ap (λ n. channel.Tool (record { 0
 same_is (channel.Group a) (channel.Tool b) h = absurd cc
 same_is (channel.Tool a) (channel.Group b) h = absurd cc
 
-sender_is : (a b : Option IndAddr) → same_sender a b ≡ true → a ≡ b
+pub sender_is : (a b : Option IndAddr) → same_sender a b ≡ true → a ≡ b
 sender_is None None h = refl
 sender_is (Some a) (Some b) h = ap (λ n. Some (record { 0 = n })) ((Decides-eqb a.0 b.0).0 h)
 sender_is None (Some b) h = absurd cc

@@ -3,10 +3,13 @@
 #![tactic(auto)]
 
 mod faults;
-mod key_row;
+mod key_set;
 mod lane_list;
 mod reading;
+mod row_index;
 mod row_list;
+mod search;
+mod steps;
 mod tables;
 #[cfg(test)]
 mod tests;
@@ -17,6 +20,8 @@ pub use lane_list::{LaneList, lanes};
 pub use reading::{
     read_channel, read_device, read_group, read_line, read_tables, three_words, two_words,
 };
+pub use row_index::RowIndex;
 pub use row_list::RowList;
+pub use steps::Steps;
 pub use tables::Tables;
-pub use types::{Channel, Lane, Level, Role, Row};
+pub use types::{Channel, Lane, Level, Role, Row, RowKey, RowValue};

@@ -1,9 +1,12 @@
 ghost use Rattle.std.specs.Prelude.{◌≡◌, ◌++◌, ◌∷◌, [], None, false, IfOk, IfErr, IsOk, OnOk, OnErr};
 ghost use Rattle.std.specs.List.{filter};
-ghost use Rattle.key_tables.specs.Build.{is_full, is_repeated, is_displaced, is_kept, merged, row_fault, first_fault, build_fault, Adds, AreFew, IsFault, NoneTwice};
+ghost use Rattle.key_tables.specs.Build.{is_full, is_repeated, merged, row_fault, first_fault, build_fault, Adds, AreFew, IsFault, NoneTwice};
+ghost use Rattle.key_tables.specs.Index.{subject_of};
+ghost use Rattle.key_tables.specs.Seen.{is_left, HasThose};
 
+use crate::key_set::KeySet;
 use crate::{BuildFault, Row};
-use std::alloc::Global;
+use std::alloc::{AllocError, Global};
 use std::marker::Model;
 
 // So many rows of keys, and so many of roles, may stand in tables.
@@ -17,6 +20,8 @@ const MOST_ROLES: usize = 16384;
 #[derive(Drop)]
 pub struct RowList {
     rows: Vec<Row>,
+    // What the rows are found by, so that a row that says again is found in few steps.
+    seen: KeySet,
     keys: usize,
     roles: usize,
 }
@@ -24,13 +29,13 @@ pub struct RowList {
 impl Model for RowList {
     ghost use Rattle.std.specs.Prelude.{List};
     ghost use Rattle.key_tables.specs.declared.types.Row.{Row};
-    ghost use Rattle.key_tables.specs.Build.{IsCounted};
+    ghost use Rattle.key_tables.specs.Seen.{IsKept};
 
     ghost Value = { List Row };
 
     ghost view = { λ list. list.rows.items };
 
-    ghost invariant = { λ list. IsCounted list.rows.items list.keys list.roles };
+    ghost invariant = { λ list. IsKept list.rows.items list.seen list.keys list.roles };
 }
 
 impl RowList {
@@ -41,6 +46,7 @@ impl RowList {
     {
         RowList {
             rows: Vec::new(alloc),
+            seen: KeySet::new(alloc),
             keys: 0,
             roles: 0,
         }
@@ -53,9 +59,10 @@ impl RowList {
         ensures stand { IsOk result → build_fault (merged over.now under.now) ≡ None }
         ensures fault { IfErr result (λ fault. IsFault fault (build_fault (merged over.now under.now))) }
     {
+        let said = subjects(alloc, over)?;
         let mut list = RowList::new(alloc);
         list.add_all(over)?;
-        list.add_kept(under, over)?;
+        list.add_kept(under, &said)?;
         Ok(list)
     }
 
@@ -67,6 +74,17 @@ impl RowList {
         ensures few { AreFew self.now }
     {
         &self.rows
+    }
+
+    // The rows, in their order, without what is kept beside them.
+    pub(crate) fn into_rows(self) -> Vec<Row>
+        ensures rows { result.items ≡ self }
+        ensures stand { build_fault self ≡ None }
+        ensures once { NoneTwice self }
+        ensures few { AreFew self }
+    {
+        let RowList { rows, .. } = self;
+        rows
     }
 
     /// Adds a row at the end, unless it may not stand there.
@@ -97,14 +115,14 @@ impl RowList {
         Ok(())
     }
 
-    // The same of the rows that none of the rows over them displaces.
-    pub(crate) fn add_kept(&mut self, rows: &[Row], over: &[Row]) -> Result<(), BuildFault>
-        ensures added { OnOk result (Adds self.old self.new (filter (is_kept over.now) rows.now)) }
+    // The same of the rows that say nothing of what is said.
+    pub(crate) fn add_kept(&mut self, rows: &[Row], said: &KeySet) -> Result<(), BuildFault>
+        ensures added { OnOk result (Adds self.old self.new (filter (is_left said.now) rows.now)) }
         ensures fault { IfErr result (λ fault. IsFault fault (first_fault self.old
-            (filter (is_kept over.now) rows.now))) }
+            (filter (is_left said.now) rows.now))) }
     {
         'rows: for row in rows {
-            if !is_displaced(over, row) {
+            if !said.contains(&row.subject()) {
                 self.add(*row)?;
             }
         }
@@ -119,6 +137,10 @@ impl RowList {
         ensures unchanged { OnErr result (self.new ≡ self.old) }
     {
         self.rows.push(row)?;
+        if self.seen.insert(row.row_key()).is_err() {
+            self.rows.pop();
+            return Err(BuildFault::NoMemory);
+        }
         match row {
             Row::Role { .. } => self.roles += 1,
             Row::Group { .. } | Row::Tool { .. } => self.keys += 1,
@@ -129,7 +151,7 @@ impl RowList {
     fn is_repeated(&self, row: &Row) -> bool
         ensures { result ≡ is_repeated self.now row.now }
     {
-        self.rows.iter().any(|earlier| row.repeats(earlier))
+        self.seen.contains(&row.row_key())
     }
 
     fn is_full(&self, row: &Row) -> bool
@@ -142,8 +164,13 @@ impl RowList {
     }
 }
 
-fn is_displaced(over: &[Row], row: &Row) -> bool
-    ensures { result ≡ is_displaced over.now row.now }
+// What the rows say something of.
+fn subjects(alloc: Global, rows: &[Row]) -> Result<KeySet, AllocError>
+    ensures { IfOk result (λ said. HasThose subject_of rows.now said) }
 {
-    over.iter().any(|other| row.displaces(other))
+    let mut said = KeySet::new(alloc);
+    'rows: for row in rows {
+        said.insert(row.subject())?;
+    }
+    Ok(said)
 }

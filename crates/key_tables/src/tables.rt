@@ -1,35 +1,40 @@
-ghost use Rattle.std.specs.Prelude.{◌≡◌, ◌≢◌, ℕ, ◌||◌, true, false, find, None, Some, is_some, IfSome, IfOk, IfErr, IsOk};
-ghost use Rattle.std.specs.Option.{option_map, option_or};
-ghost use Rattle.key_tables.specs.Build.{build_fault, merged, AreFew, IsFault, NoneTwice, LookUpsMerge};
-ghost use Rattle.key_tables.specs.Expanded.{expanded_keys, is_of};
+ghost use Rattle.std.specs.Prelude.{◌≡◌, ◌≢◌, ℕ, ◌||◌, length, true, false, None, Some, is_some, IfSome, IfOk, IfErr, IsOk};
+ghost use Rattle.std.specs.List.{filter};
+ghost use Rattle.std.specs.Option.{option_map, option_or, option_and_then};
+ghost use Rattle.key_tables.specs.Build.{build_fault, is_key, is_role, merged, AreFew, IsFault, NoneTwice, LookUpsMerge};
+ghost use Rattle.key_tables.specs.Index.{value_key, value_level, AddsSteps};
 ghost use Rattle.key_tables.specs.Rows.{is_key_row, is_role_row, row_key, row_level, row_role, is_own, has_key, has_role, EachSays, key_of, level_of, named_role, role_of, channel_of, device_role, keyed};
 
-use crate::key_row::{KeyRow, expanded};
-use crate::{BuildFault, Channel, Level, Role, Row, RowList};
+use crate::search::{find, search};
+use crate::{BuildFault, Channel, Level, Role, Row, RowIndex, RowKey, RowList, RowValue, Steps};
 use aes_modes::Key128;
 use knx_base::{GroupAddr, IndAddr};
-use std::alloc::{AllocError, Global};
-use std::marker::Model;
+use std::alloc::Global;
+use std::marker::{Brand, Model};
+use std::sync::ledger::{Blank, Ledger};
 
 /// The rows of an installation. No channel has two keys, and no sender two roles on one channel.
 ///
-/// A contract sees them as their list.
+/// A contract sees them as their list. A look-up asks the indexes, in which each row is found in few steps.
 #[derive(Drop)]
 pub struct Tables {
-    list: RowList,
-    keys: Vec<KeyRow>,
+    rows: Vec<Row>,
+    keys: RowIndex,
+    roles: RowIndex,
+    // The keys, expanded, at their places in the index.
+    expanded: Vec<Key128>,
 }
 
 impl Model for Tables {
-    ghost use Rattle.std.specs.Prelude.{◌≡◌, List};
+    ghost use Rattle.std.specs.Prelude.{List};
     ghost use Rattle.key_tables.specs.declared.types.Row.{Row};
-    ghost use Rattle.key_tables.specs.Expanded.{expanded_keys};
+    ghost use Rattle.key_tables.specs.Index.{AreIndexed};
 
     ghost Value = { List Row };
 
-    ghost view = { λ tables. tables.list };
+    ghost view = { λ tables. tables.rows.items };
 
-    ghost invariant = { λ tables. tables.keys.items ≡ expanded_keys tables.list };
+    ghost invariant = { λ tables. AreIndexed tables.rows.items tables.keys tables.roles tables.expanded.items };
 }
 
 impl Tables {
@@ -45,7 +50,7 @@ impl Tables {
     {
         let mut list = RowList::new(alloc);
         list.add_all(rows)?;
-        Tables::expanded(alloc, list)
+        Tables::indexed(alloc, list)
     }
 
     /// The rows of `over`, and after them those key rows of `under` whose channel has no key in `over`, and those role
@@ -62,17 +67,24 @@ impl Tables {
         ensures look_ups { LookUpsMerge over.now under.now }
     {
         let list = RowList::merged(alloc, over, under)?;
-        Tables::expanded(alloc, list)
+        Tables::indexed(alloc, list)
     }
 
-    fn expanded(alloc: Global, list: RowList) -> Result<Tables, BuildFault>
+    fn indexed(alloc: Global, list: RowList) -> Result<Tables, BuildFault>
         ensures rows { IfOk result (λ tables. tables ≡ list) }
         ensures once { IfOk result (λ tables. NoneTwice tables) }
         ensures few { IfOk result (λ tables. AreFew tables) }
         ensures fault { IfErr result (λ fault. fault ≡ BuildFault.NoMemory) }
     {
-        let keys = expanded_keys(alloc, list.as_slice())?;
-        Ok(Tables { list, keys })
+        let keys = RowIndex::of_keys(alloc, &list)?;
+        let roles = RowIndex::of_roles(alloc, &list)?;
+        let expanded = keys.expanded(alloc)?;
+        Ok(Tables {
+            rows: list.into_rows(),
+            keys,
+            roles,
+            expanded,
+        })
     }
 
     /// The key of a channel.
@@ -82,15 +94,34 @@ impl Tables {
         ensures there { is_some result ≡ has_key self.now channel }
         ensures each { EachSays self.now (is_key_row channel) row_key result }
     {
-        key_in(self.list.as_slice(), channel)
+        self.key_value(channel)?.key()
+    }
+
+    /// The key of a channel, found in so few steps.
+    pub fn key_counted<L: Ledger>(&self, channel: Channel, steps: &mut Steps<L>) -> Option<[u8; 16]>
+        ensures key { result ≡ key_of self.now channel }
+        ensures steps { AddsSteps 1 (length (filter is_key self.now)) steps.old steps.new }
+    {
+        let place = search(&self.keys, &RowKey::Key(channel), steps)?;
+        self.keys.value_at(place).key()
+    }
+
+    // What stands in the row of a channel's key.
+    fn key_value(&self, channel: Channel) -> Option<RowValue>
+        ensures key { option_and_then value_key result ≡ key_of self.now channel }
+        ensures level { option_and_then value_level result ≡ level_of self.now channel }
+        ensures stand { build_fault self.now ≡ None }
+    {
+        let place = find(&self.keys, &RowKey::Key(channel))?;
+        Some(self.keys.value_at(place))
     }
 
     /// The key of a channel, with its round keys.
     pub fn expanded_key(&self, channel: Channel) -> Option<&Key128>
         ensures key { option_map (λ key. key.now) result ≡ key_of self.now channel }
     {
-        let row = key_named(&self.keys, channel)?;
-        Some(&row.key)
+        let place = find(&self.keys, &RowKey::Key(channel))?;
+        self.expanded.get(place)
     }
 
     /// The level of a channel that has a key.
@@ -100,12 +131,12 @@ impl Tables {
         ensures there { is_some result ≡ has_key self.now channel }
         ensures each { EachSays self.now (is_key_row channel) row_level result }
     {
-        level_in(self.list.as_slice(), channel)
+        self.key_value(channel)?.level()
     }
 
     /// The role of a sender on a channel: its own row's, else that of the row for any sender, else Observe for the
     /// device whose channel it is.
-    #[tactic(auto, unfolding(crate::specs::Rows::role_of))]
+    #[tactic(auto, unfolding(crate::specs::Rows::role_of), using(crate::proofs::Unique::named_where, crate::proofs::Unique::each_role))]
     pub fn role(&self, channel: Channel, sender: IndAddr) -> Option<Role>
         ensures role { result ≡ role_of self.now channel sender }
         ensures there { is_some result ≡ (has_role self.now channel (Some sender) || has_role self.now channel None
@@ -117,33 +148,63 @@ impl Tables {
             → is_own channel sender ≡ true
             → result ≡ Some Role.Observe }
     {
-        match self.named_role(channel, Some(sender)) {
+        self.role_from::<Brand>(channel, sender, Blank::new(1))
+    }
+
+    fn role_from<L: Ledger>(&self, channel: Channel, sender: IndAddr, blank: Blank) -> Option<Role>
+        requires name { blank.name ≡ L.name }
+        requires parts { blank.parts ≡ L.parts }
+        requires one { blank.parts ≡ 1 }
+        ensures role { result ≡ role_of self.now channel sender }
+        ensures stand { build_fault self.now ≡ None }
+    {
+        self.role_counted(channel, sender, &mut Steps::<L>::new(blank))
+    }
+
+    /// The role of a sender on a channel, found in so few steps.
+    #[tactic(auto, unfolding(crate::specs::Rows::role_of))]
+    pub fn role_counted<L: Ledger>(
+        &self,
+        channel: Channel,
+        sender: IndAddr,
+        steps: &mut Steps<L>,
+    ) -> Option<Role>
+        ensures role { result ≡ role_of self.now channel sender }
+        ensures steps { AddsSteps 2 (length (filter is_role self.now)) steps.old steps.new }
+    {
+        match self.named_role(channel, Some(sender), steps) {
             Some(role) => Some(role),
-            None => self.common_role(channel, sender),
+            None => self.common_role(channel, sender, steps),
         }
     }
 
     // The role of a sender that has no row of its own.
-    fn common_role(&self, channel: Channel, sender: IndAddr) -> Option<Role>
+    fn common_role<L: Ledger>(
+        &self,
+        channel: Channel,
+        sender: IndAddr,
+        steps: &mut Steps<L>,
+    ) -> Option<Role>
         ensures role { result ≡ option_or (named_role self.now channel None) (device_role channel sender) }
-        ensures there { is_some result ≡ (has_role self.now channel None || is_own channel sender) }
-        ensures any { EachSays self.now (is_role_row channel None) row_role result }
-        ensures device { has_role self.now channel None ≡ false → is_own channel sender ≡ true
-            → result ≡ Some Role.Observe }
+        ensures steps { AddsSteps 1 (length (filter is_role self.now)) steps.old steps.new }
     {
-        match self.named_role(channel, None) {
+        match self.named_role(channel, None, steps) {
             Some(role) => Some(role),
             None => own_role(channel, sender),
         }
     }
 
-    #[tactic(auto, using(crate::proofs::Unique::named_where, crate::proofs::Unique::each_role))]
-    fn named_role(&self, channel: Channel, sender: Option<IndAddr>) -> Option<Role>
+    fn named_role<L: Ledger>(
+        &self,
+        channel: Channel,
+        sender: Option<IndAddr>,
+        steps: &mut Steps<L>,
+    ) -> Option<Role>
         ensures role { result ≡ named_role self.now channel sender }
-        ensures there { is_some result ≡ has_role self.now channel sender }
-        ensures each { EachSays self.now (is_role_row channel sender) row_role result }
+        ensures steps { AddsSteps 1 (length (filter is_role self.now)) steps.old steps.new }
     {
-        role_in(self.list.as_slice(), channel, sender)
+        let place = search(&self.roles, &RowKey::Role(channel, sender), steps)?;
+        self.roles.value_at(place).role()
     }
 
     /// The channel of a frame. Without tool access it is the destination, where that is a group with a key. With tool
@@ -186,18 +247,6 @@ impl Tables {
     }
 }
 
-fn expanded_keys(alloc: Global, rows: &[Row]) -> Result<Vec<KeyRow>, AllocError>
-    ensures keys { IfOk result (λ keys. keys.items ≡ expanded_keys rows.now) }
-{
-    rows.iter().filter_map(expanded).collect(alloc)
-}
-
-fn key_named(keys: &[KeyRow], channel: Channel) -> Option<&KeyRow>
-    ensures { option_map (λ key. key.now) result ≡ find (is_of channel) keys.now }
-{
-    keys.iter().find(|key| key.is_of(channel))
-}
-
 fn own_role(channel: Channel, sender: IndAddr) -> Option<Role>
     ensures { result ≡ device_role channel sender }
 {
@@ -205,37 +254,4 @@ fn own_role(channel: Channel, sender: IndAddr) -> Option<Role>
         Channel::Tool(device) if device == sender => Some(Role::Observe),
         _ => None,
     }
-}
-
-#[tactic(auto, unfolding(crate::specs::Rows::key_of))]
-fn key_in(rows: &[Row], channel: Channel) -> Option<[u8; 16]>
-    ensures { result ≡ key_of rows.now channel }
-{
-    key_row(rows, channel)?.key()
-}
-
-#[tactic(auto, unfolding(crate::specs::Rows::level_of))]
-fn level_in(rows: &[Row], channel: Channel) -> Option<Level>
-    ensures { result ≡ level_of rows.now channel }
-{
-    key_row(rows, channel)?.level()
-}
-
-#[tactic(auto, unfolding(crate::specs::Rows::named_role))]
-fn role_in(rows: &[Row], channel: Channel, sender: Option<IndAddr>) -> Option<Role>
-    ensures { result ≡ named_role rows.now channel sender }
-{
-    role_row(rows, channel, sender)?.role()
-}
-
-fn key_row(rows: &[Row], channel: Channel) -> Option<&Row>
-    ensures { option_map (λ row. row.now) result ≡ find (is_key_row channel) rows.now }
-{
-    rows.iter().find(|row| row.is_key_of(channel))
-}
-
-fn role_row(rows: &[Row], channel: Channel, sender: Option<IndAddr>) -> Option<&Row>
-    ensures { option_map (λ row. row.now) result ≡ find (is_role_row channel sender) rows.now }
-{
-    rows.iter().find(|row| row.is_role_of(channel, sender))
 }

@@ -1,6 +1,6 @@
 ghost use Rattle.std.specs.Prelude.{◌≡◌};
-ghost use Rattle.key_tables.specs.Build.{repeats, displaces};
-ghost use Rattle.key_tables.specs.Rows.{same_channel, key_channel, role_channel, is_channel, is_key_row, has_sender, is_role_row, row_key, row_level, row_role, lane_of, role_rank, is_enough};
+ghost use Rattle.key_tables.specs.Index.{row_key_of, subject_of, key_entry, role_entry, value_key, value_level, value_role};
+ghost use Rattle.key_tables.specs.Rows.{same_channel, key_channel, is_channel, is_key_row, lane_of, role_rank, is_enough};
 
 use knx_base::{GroupAddr, IndAddr};
 use std::fmt;
@@ -59,6 +59,24 @@ pub enum Row {
         sender: Option<IndAddr>,
         role: Role,
     },
+}
+
+/// What a row is found by. Key rows come before role rows, and groups before devices; on a channel the row of any
+/// sender comes first.
+#[derive(Clone, Copy, Debug, PartialEq, Eq, PartialOrd, Ord)]
+pub enum RowKey {
+    /// The channel whose key it holds.
+    Key(Channel),
+    /// The channel, and the sender whose role on it it gives, or none for any sender.
+    Role(Channel, Option<IndAddr>),
+}
+
+/// What stands in a row beside what it is found by.
+#[derive(Clone, Copy, PartialEq, Eq)]
+pub enum RowValue {
+    /// A key, and of a group the level.
+    Key([u8; 16], Option<Level>),
+    Role(Role),
 }
 
 impl Channel {
@@ -137,81 +155,94 @@ impl Row {
         self.key_channel() == Some(channel)
     }
 
-    // The row holds this very sender's role on the channel, or any sender's.
-    pub(crate) fn is_role_of(&self, channel: Channel, sender: Option<IndAddr>) -> bool
-        ensures { result ≡ is_role_row channel sender self.now }
+    // What the row is found by.
+    pub(crate) fn row_key(&self) -> RowKey
+        ensures { result ≡ row_key_of self.now }
     {
         match self {
-            Row::Role {
-                channel: other,
-                sender: named,
-                ..
-            } => *other == channel && *named == sender,
-            _ => false,
-        }
-    }
-
-    pub(crate) fn key(&self) -> Option<[u8; 16]>
-        ensures { result ≡ row_key self.now }
-    {
-        match self {
-            Row::Group { key, .. } | Row::Tool { key, .. } => Some(*key),
-            Row::Role { .. } => None,
-        }
-    }
-
-    pub(crate) fn level(&self) -> Option<Level>
-        ensures { result ≡ row_level self.now }
-    {
-        match self {
-            Row::Group { level, .. } => Some(*level),
-            Row::Tool { .. } => Some(Level::Conf),
-            Row::Role { .. } => None,
-        }
-    }
-
-    pub(crate) fn role(&self) -> Option<Role>
-        ensures { result ≡ row_role self.now }
-    {
-        match self {
-            Row::Role { role, .. } => Some(*role),
-            _ => None,
-        }
-    }
-
-    // The earlier row is of the same group, of the same device, or of the same sender on the same channel.
-    pub(crate) fn repeats(&self, earlier: &Row) -> bool
-        ensures { result ≡ repeats self.now earlier.now }
-    {
-        match self {
-            Row::Group { address, .. } => earlier.is_key_of(Channel::Group(*address)),
-            Row::Tool { device, .. } => earlier.is_key_of(Channel::Tool(*device)),
+            Row::Group { address, .. } => RowKey::Key(Channel::Group(*address)),
+            Row::Tool { device, .. } => RowKey::Key(Channel::Tool(*device)),
             Row::Role {
                 channel,
                 sender,
                 ..
-            } => earlier.is_role_of(*channel, *sender),
+            } => RowKey::Role(*channel, *sender),
         }
     }
 
-    // Both rows hold the key of one channel, or both a role on it.
-    pub(crate) fn displaces(&self, over: &Row) -> bool
-        ensures { result ≡ displaces self.now over.now }
+    // What the row says something of: the key of a channel, or the roles on it.
+    pub(crate) fn subject(&self) -> RowKey
+        ensures { result ≡ subject_of self.now }
     {
         match self {
-            Row::Group { address, .. } => over.is_key_of(Channel::Group(*address)),
-            Row::Tool { device, .. } => over.is_key_of(Channel::Tool(*device)),
-            Row::Role { channel, .. } => over.role_channel() == Some(*channel),
+            Row::Group { address, .. } => RowKey::Key(Channel::Group(*address)),
+            Row::Tool { device, .. } => RowKey::Key(Channel::Tool(*device)),
+            Row::Role { channel, .. } => RowKey::Role(*channel, None),
         }
     }
 
-    // The channel of a role row.
-    fn role_channel(&self) -> Option<Channel>
-        ensures { result ≡ role_channel self.now }
+    // The row with what it is found by, where it holds a key.
+    pub(crate) fn key_entry(&self) -> Option<(RowKey, RowValue)>
+        ensures { result ≡ key_entry self.now }
     {
         match self {
-            Row::Role { channel, .. } => Some(*channel),
+            Row::Group {
+                address,
+                key,
+                level,
+            } => Some((
+                RowKey::Key(Channel::Group(*address)),
+                RowValue::Key(*key, Some(*level)),
+            )),
+            Row::Tool { device, key } => Some((
+                RowKey::Key(Channel::Tool(*device)),
+                RowValue::Key(*key, None),
+            )),
+            Row::Role { .. } => None,
+        }
+    }
+
+    // The same, where it gives a role.
+    pub(crate) fn role_entry(&self) -> Option<(RowKey, RowValue)>
+        ensures { result ≡ role_entry self.now }
+    {
+        match self {
+            Row::Role {
+                channel,
+                sender,
+                role,
+            } => Some((RowKey::Role(*channel, *sender), RowValue::Role(*role))),
             _ => None,
+        }
+    }
+}
+
+impl RowValue {
+    pub(crate) fn key(&self) -> Option<[u8; 16]>
+        ensures { result ≡ value_key self.now }
+    {
+        match self {
+            RowValue::Key(key, _) => Some(*key),
+            RowValue::Role(_) => None,
+        }
+    }
+
+    // A device's channel is confidential.
+    pub(crate) fn level(&self) -> Option<Level>
+        ensures { result ≡ value_level self.now }
+    {
+        match self {
+            RowValue::Key(_, level) => Some(level.unwrap_or(Level::Conf)),
+            RowValue::Role(_) => None,
+        }
+    }
+
+    pub(crate) fn role(&self) -> Option<Role>
+        ensures { result ≡ value_role self.now }
+    {
+        match self {
+            RowValue::Role(role) => Some(*role),
+            RowValue::Key(..) => None,
         }
     }
 }

@@ -1,0 +1,41 @@
+-- Plumbing: which keys a set holds, against the rows that they are of, and where a row is in an index.
+use Rattle.std.specs.Prelude.{◌≡◌, ◌||◌, ◌<◌, Bool, not, length, slice_get, List, Option, Some, None}
+use Rattle.std.specs.Option.{option_map}
+use Rattle.std.specs.Map.{lookup}
+use Rattle.std.specs.List.{list_any}
+use Rattle.key_tables.specs.declared.types.Row.{Row}
+use Rattle.key_tables.specs.declared.types.RowKey.{RowKey}
+use Rattle.key_tables.specs.declared.types.RowValue.{RowValue}
+use Rattle.key_tables.specs.Build.{IsCounted}
+use Rattle.key_tables.specs.Index.{same_key, row_key_of, subject_of}
+use Prim.Native.Nat.{ℕ}
+
+abbrev pub holds : List RowKey → RowKey → Bool
+holds set key = list_any (same_key key) set
+
+-- the set holds one key more
+abbrev pub Gains : RowKey → List RowKey → List RowKey → Type 0
+Gains key before now = (other : RowKey) → holds now other ≡ (same_key other key || holds before other)
+
+-- the set holds just the keys of the rows, or what they say something of
+abbrev pub HasThose : (Row → RowKey) → List Row → List RowKey → Type 0
+HasThose key_of rows set = (key : RowKey) → holds set key ≡ list_any (λ row. same_key key (key_of row)) rows
+
+-- what a list of rows keeps beside them
+pub record IsKept (rows : List Row) (seen : List RowKey) (keys roles : ℕ) : Type 0 where
+  pub counted : IsCounted rows keys roles
+  pub seen_are : HasThose row_key_of rows seen
+
+-- no row over it says something of the same
+abbrev pub is_left : List RowKey → Row → Bool
+is_left subjects row = not (holds subjects (subject_of row))
+
+-- a row under this key stands at this place
+pub record StandsAt (index : List (RowKey × RowValue)) (wanted : RowKey) (place : ℕ) : Type 0 where
+  pub within : place < length index
+  pub is : option_map (λ entry. entry.0) (slice_get index place) ≡ Some wanted
+
+-- it is the place of the row under the key, or there is none
+abbrev pub IsPlace : List (RowKey × RowValue) → RowKey → Option ℕ → Type 0
+IsPlace index wanted (Some place) = StandsAt index wanted place
+IsPlace index wanted None = lookup (same_key wanted) index ≡ None
