@@ -5,6 +5,8 @@ pub mod Unique
 pub mod KeyOrder
 mod KeySets
 mod Indexing
+mod Searching
+mod Looking
 mod Merging
 pub mod Standing
 pub mod LaneOrder

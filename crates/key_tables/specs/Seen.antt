@@ -1,13 +1,14 @@
 -- Plumbing: which keys a set holds, against the rows that they are of, and where a row is in an index.
 use Rattle.std.specs.Prelude.{◌≡◌, ◌||◌, ◌<◌, Bool, not, length, slice_get, List, Option, Some, None}
 use Rattle.std.specs.Option.{option_map}
-use Rattle.std.specs.Map.{lookup}
+use Rattle.std.specs.List.Sorted.{IsStrictlySortedBy}
+use Rattle.std.specs.Map.{keys_of, lookup}
 use Rattle.std.specs.List.{list_any}
 use Rattle.key_tables.specs.declared.types.Row.{Row}
 use Rattle.key_tables.specs.declared.types.RowKey.{RowKey}
 use Rattle.key_tables.specs.declared.types.RowValue.{RowValue}
 use Rattle.key_tables.specs.Build.{IsCounted}
-use Rattle.key_tables.specs.Index.{same_key, row_key_of, subject_of}
+use Rattle.key_tables.specs.Index.{same_key, key_cmp, row_key_of, subject_of}
 use Prim.Native.Nat.{ℕ}
 
 abbrev pub holds : List RowKey → RowKey → Bool
@@ -30,10 +31,11 @@ pub record IsKept (rows : List Row) (seen : List RowKey) (keys roles : ℕ) : Ty
 abbrev pub is_left : List RowKey → Row → Bool
 is_left subjects row = not (holds subjects (subject_of row))
 
--- a row under this key stands at this place
+-- a row under this key stands at this place of an index in order
 pub record StandsAt (index : List (RowKey × RowValue)) (wanted : RowKey) (place : ℕ) : Type 0 where
   pub within : place < length index
   pub is : option_map (λ entry. entry.0) (slice_get index place) ≡ Some wanted
+  pub ascend : IsStrictlySortedBy key_cmp (keys_of index)
 
 -- it is the place of the row under the key, or there is none
 abbrev pub IsPlace : List (RowKey × RowValue) → RowKey → Option ℕ → Type 0

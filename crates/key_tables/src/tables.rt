@@ -5,7 +5,7 @@ ghost use Rattle.key_tables.specs.Build.{build_fault, is_key, is_role, merged, A
 ghost use Rattle.key_tables.specs.Index.{value_key, value_level, AddsSteps};
 ghost use Rattle.key_tables.specs.Rows.{is_key_row, is_role_row, row_key, row_level, row_role, is_own, has_key, has_role, EachSays, key_of, level_of, named_role, role_of, channel_of, device_role, keyed};
 
-use crate::search::{find, search};
+use crate::search::{find, value_counted, value_of};
 use crate::{BuildFault, Channel, Level, Role, Row, RowIndex, RowKey, RowList, RowValue, Steps};
 use aes_modes::Key128;
 use knx_base::{GroupAddr, IndAddr};
@@ -98,22 +98,22 @@ impl Tables {
     }
 
     /// The key of a channel, found in so few steps.
+    #[tactic(auto, using(crate::proofs::Looking::key_says, crate::proofs::Looking::key_steps))]
     pub fn key_counted<L: Ledger>(&self, channel: Channel, steps: &mut Steps<L>) -> Option<[u8; 16]>
         ensures key { result ≡ key_of self.now channel }
         ensures steps { AddsSteps 1 (length (filter is_key self.now)) steps.old steps.new }
     {
-        let place = search(&self.keys, &RowKey::Key(channel), steps)?;
-        self.keys.value_at(place).key()
+        value_counted(&self.keys, &RowKey::Key(channel), steps)?.key()
     }
 
     // What stands in the row of a channel's key.
+    #[tactic(auto, using(crate::proofs::Looking::key_says, crate::proofs::Looking::level_says))]
     fn key_value(&self, channel: Channel) -> Option<RowValue>
         ensures key { option_and_then value_key result ≡ key_of self.now channel }
         ensures level { option_and_then value_level result ≡ level_of self.now channel }
         ensures stand { build_fault self.now ≡ None }
     {
-        let place = find(&self.keys, &RowKey::Key(channel))?;
-        Some(self.keys.value_at(place))
+        value_of(&self.keys, &RowKey::Key(channel))
     }
 
     /// The key of a channel, with its round keys.
@@ -194,6 +194,7 @@ impl Tables {
         }
     }
 
+    #[tactic(auto, using(crate::proofs::Looking::role_says, crate::proofs::Looking::role_steps))]
     fn named_role<L: Ledger>(
         &self,
         channel: Channel,
@@ -203,8 +204,7 @@ impl Tables {
         ensures role { result ≡ named_role self.now channel sender }
         ensures steps { AddsSteps 1 (length (filter is_role self.now)) steps.old steps.new }
     {
-        let place = search(&self.roles, &RowKey::Role(channel, sender), steps)?;
-        self.roles.value_at(place).role()
+        value_counted(&self.roles, &RowKey::Role(channel, sender), steps)?.role()
     }
 
     /// The channel of a frame. Without tool access it is the destination, where that is a group with a key. With tool
