@@ -1,15 +1,19 @@
 -- A set of keys holds what was put into it, and a list of rows with one row more has one key more.
-use Rattle.std.proofs.Common.{◌≡◌, ◌||◌, Bool, true, false, cond, not, List, [], ◌∷◌, ◌++◌, refl, sym, ap, ◌∙◌, BTreeSet}
+use Rattle.std.proofs.Common.{◌≡◌, ℕ, ◌<◌, ◌+◌, ◌&&◌, ◌||◌, length, take, slice_index_or, Bool, true, false, cond, not, List, [], ◌∷◌, ◌++◌, refl, sym, ap, subst, ◌∙◌, BTreeSet}
 use Rattle.std.specs.Ordering.{is_eq}
 use Rattle.std.specs.List.{list_any, filter}
 use Rattle.std.specs.BTreeSet.{contains}
 use Rattle.std.specs.BTreeMap.{is_at}
+use Rattle.std.proofs.lemmas.List.{take_more}
 use Rattle.std.proofs.lemmas.List.Folds.{list_any-append}
 use Rattle.key_tables.specs.declared.types.Row.{Row}
+use Rattle.key_tables.specs.declared.types.Row.TheVariants as row
 use Rattle.key_tables.specs.declared.types.RowKey.{RowKey}
 use Rattle.key_tables.specs.contracts.types.RowKeyOrd.TheImpl.{cmp-value}
-use Rattle.key_tables.specs.Index.{same_key}
-use Rattle.key_tables.specs.Seen.{holds, Gains, HasThose}
+use Rattle.key_tables.specs.Build.{displaces, is_kept}
+use Rattle.key_tables.specs.Index.{same_key, subject_of}
+use Rattle.key_tables.specs.Rows.{same_channel}
+use Rattle.key_tables.specs.Seen.{holds, Gains, HasThose, is_left}
 use Rattle.key_tables.proofs.KeyOrder.{cmp_is, same_is_equal, same_turned}
 
 found : (a b : RowKey) → is_eq (cmp-value.it a b) ≡ same_key a b
@@ -30,3 +34,48 @@ one_more key before now updates other =
     sym (holds_is now other) ∙ updates other
     ∙ (λ i. cond ((found key other ∙ same_turned key other) i) true (holds_is before other i))
     ∙ either (same_key other key) (holds before.keys other)
+
+-- ---- beside a list of rows
+
+one_last : (a b : Bool) → (a || b) ≡ (b || (a || false))
+one_last true true = refl
+one_last true false = refl
+one_last false true = refl
+one_last false false = refl
+
+pub more_held : (key_of : Row → RowKey) (rows now : List Row) (row : Row) (before new : List RowKey)
+    → now ≡ rows ++ row ∷ [] → HasThose key_of rows before → Gains (key_of row) before new → HasThose key_of now new
+more_held key_of rows now row before new are held gains key =
+    gains key
+    ∙ ap (λ b. same_key key (key_of row) || b) (held key)
+    ∙ one_last (same_key key (key_of row)) (list_any (λ r. same_key key (key_of r)) rows)
+    ∙ sym (list_any-append (λ r. same_key key (key_of r)) rows (row ∷ []))
+    ∙ ap (list_any (λ r. same_key key (key_of r))) (sym are)
+
+pub next_held : (key_of : Row → RowKey) (rows : List Row) (i : ℕ) (d : Row) (key : RowKey) (before new : List RowKey)
+    → i < length rows → key ≡ key_of (slice_index_or rows i d)
+    → HasThose key_of (take i rows) before → Gains key before new
+    → HasThose key_of (take (i + 1) rows) new
+next_held key_of rows i d key before new within is held gains =
+    more_held key_of (take i rows) (take (i + 1) rows) (slice_index_or rows i d) before new
+    (take_more rows i d within) held (subst (λ k. Gains k before new) is gains)
+
+only_channel : (a : Bool) → (a && true) ≡ a
+only_channel true = refl
+only_channel false = refl
+
+displaces_is : (this over : Row) → displaces this over ≡ same_key (subject_of this) (subject_of over)
+displaces_is (row.Group _ _ _) (row.Group _ _ _) = refl
+displaces_is (row.Group _ _ _) (row.Tool _ _) = refl
+displaces_is (row.Group _ _ _) (row.Role _ _ _) = refl
+displaces_is (row.Tool _ _) (row.Group _ _ _) = refl
+displaces_is (row.Tool _ _) (row.Tool _ _) = refl
+displaces_is (row.Tool _ _) (row.Role _ _ _) = refl
+displaces_is (row.Role _ _ _) (row.Group _ _ _) = refl
+displaces_is (row.Role _ _ _) (row.Tool _ _) = refl
+displaces_is (row.Role a _ _) (row.Role b _ _) = sym (only_channel (same_channel a b))
+
+-- what a list of rows does not displace is what says nothing of what they do
+pub left_is : (over : List Row) (said : List RowKey) → HasThose subject_of over said → is_left said ≡ is_kept over
+left_is over said those i row =
+    not ((those (subject_of row) ∙ sym (λ j. list_any (λ other. displaces_is row other j) over)) i)

@@ -122,7 +122,7 @@ impl RowList {
             (filter (is_left said.now) rows.now))) }
     {
         'rows: for row in rows {
-            if !said.contains(&row.subject()) {
+            if is_left(said, row) {
                 self.add(*row)?;
             }
         }
@@ -162,6 +162,13 @@ impl RowList {
             Row::Group { .. } | Row::Tool { .. } => self.keys >= MOST_KEYS,
         }
     }
+}
+
+// The row says nothing of what is said.
+fn is_left(said: &KeySet, row: &Row) -> bool
+    ensures { result ≡ is_left said.now row.now }
+{
+    !said.contains(&row.subject())
 }
 
 // What the rows say something of.

@@ -1,14 +1,16 @@
-use Rattle.std.proofs.Common.{rules, Some, None}
-use Rattle.key_tables.proofs.Expanding.{key_found}
+use Rattle.std.proofs.Common.{rules, ◌∙◌, sym}
+use Rattle.std.proofs.Common.{None}
+use Rattle.key_tables.specs.Rows.{key_of}
+use Rattle.key_tables.proofs.Looking.{key_says, expanded_says}
 use Rattle.key_tables.proofs.tables.Tables.expanded_key.Goals as goal
 
-pub returns-in_err-row : goal.returns-in_err-row
-returns-in_err-row c =
-    let missing = key_found c.deref.result.now c.args.self.now c.args.channel None (search rules) (search rules) in
-    record { key = search (rules, missing) }
+pub returns-in_err-place : goal.returns-in_err-place
+returns-in_err-place c =
+    let none = key_says c.args.self.now _ c.args.channel c.self.invariant.keys_are in
+    record { key = search (rules, none) }
 
 pub returns : goal.returns
 returns c = record {
-  key = key_found c.deref.result.now c.args.self.now c.args.channel (Some c.in_ok-row.row.now) (search rules)
-      (search rules);
+  key = search (rules, expanded_says c.self.inside.rows.items _ _ c.args.channel c.in_ok-place.place
+      c.self.invariant.keys_are c.self.invariant.expanded_are c.in_ok-place.ensures);
 }
