@@ -6,6 +6,7 @@ pub mod KeyOrder
 mod KeySets
 mod Indexing
 mod Searching
+mod RoleLaws
 mod Looking
 mod Merging
 pub mod Standing

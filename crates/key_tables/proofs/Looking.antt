@@ -1,10 +1,10 @@
 -- What an index says of a key is what a search in the list of rows says.
 use Prim.Native.Nat.{zero, suc}
-use Rattle.std.proofs.Common.{◌≡◌, ℕ, ◌<◌, ◌+◌, ◌≤◌, ◌*◌, ◌^◌, ◌⊎◌, Bool, true, false, cond, arith, List, [], ◌∷◌, length, Option, Some, None, find, refl, sym, ap, subst, ◌∙◌, slice_get, option_map}
+use Rattle.std.proofs.Common.{◌≡◌, ℕ, ◌<◌, ◌+◌, ◌≤◌, ◌*◌, ◌^◌, ◌||◌, Bool, true, false, cond, arith, List, [], ◌∷◌, length, Option, Some, None, find, refl, sym, ap, subst, ◌∙◌, slice_get, option_map}
 use Rattle.std.specs.List.{All, IsDistinct, Contains, filter, filter_map, cons_option}
 use Rattle.std.specs.List.Sorted.{IsPermutation, IsStrictlySortedBy}
 use Rattle.std.specs.Map.{keys_of, lookup}
-use Rattle.std.specs.Option.{option_and_then, is_some}
+use Rattle.std.specs.Option.{option_and_then, option_or, is_some}
 use Rattle.std.proofs.lemmas.List.Elements.{All-cons, All-nil, All-head, All-tail}
 use Rattle.std.proofs.lemmas.List.Sorted.{IsPermutation-sym, IsPermutation-map, Contains-permutation, All-permutation, length_permutation}
 use Rattle.std.proofs.lemmas.Map.Keys.{IsDistinct-from_sorted, IsDistinct-IsPermutation}
@@ -15,6 +15,7 @@ use Rattle.key_tables.specs.declared.types.Channel.{Channel}
 use Rattle.key_tables.specs.declared.types.Channel.TheVariants as channel
 use Rattle.key_tables.specs.declared.types.Level.{Level}
 use Rattle.key_tables.specs.declared.types.Role.{Role}
+use Rattle.key_tables.specs.declared.types.Role.TheVariants.{Observe}
 use Rattle.key_tables.specs.declared.types.Row.{Row}
 use Rattle.key_tables.specs.declared.types.Row.TheVariants as row
 use Rattle.key_tables.specs.declared.types.RowKey.{RowKey}
@@ -22,9 +23,11 @@ use Rattle.key_tables.specs.declared.types.RowKey.TheVariants as under
 use Rattle.key_tables.specs.declared.types.RowValue.{RowValue}
 use Rattle.key_tables.specs.declared.types.RowValue.TheVariants as value
 use Rattle.key_tables.specs.Build.{is_key, is_role}
-use Rattle.key_tables.specs.Index.{same_key, key_cmp, value_key, value_level, value_role, key_entry, role_entry, key_entries, role_entries, expanded_of, AreInOrder, AddsSteps}
-use Rattle.key_tables.specs.Rows.{same_channel, is_key_row, is_role_row, row_key, row_level, row_role, key_of, level_of, named_role}
-use Rattle.key_tables.specs.Seen.{StandsAt, IsPlace}
+use Rattle.key_tables.specs.Index.{same_key, key_cmp, value_key, value_level, value_role, key_entry, role_entry, key_entries, role_entries, expanded_of, AreInOrder, AreIndexed, AddsSteps}
+use Rattle.key_tables.specs.Rows.{same_channel, is_key_row, is_role_row, row_key, row_level, row_role, is_own, has_key, has_role, EachSays, key_of, level_of, named_role, role_of, device_role}
+use Rattle.key_tables.specs.Seen.{StandsAt, key_in, level_in, role_in}
+use Rattle.key_tables.proofs.Unique.{key_where, level_where, each_key, each_level}
+use Rattle.key_tables.proofs.RoleLaws.{role_where, own_says, any_says, device_says}
 use Rattle.key_tables.proofs.KeyOrder.{equivalence, same_is_equal, same_turned, same_key-is}
 
 abbrev Entry : Type 0
@@ -108,23 +111,23 @@ key_searched f g same (row.Tool device key ∷ rows) wanted =
     (same (row.Tool device key) _ refl) (key_searched f g same rows wanted)
 key_searched f g same (row.Role channel sender role ∷ rows) wanted = key_searched f g same rows wanted
 
-abbrev key_in : Option Entry → Option (List ℕ)
-key_in o = option_and_then (λ e. value_key e.1) o
+abbrev entry_key : Option Entry → Option (List ℕ)
+entry_key o = option_and_then (λ e. value_key e.1) o
 
-abbrev level_in : Option Entry → Option Level
-level_in o = option_and_then (λ e. value_level e.1) o
+abbrev entry_level : Option Entry → Option Level
+entry_level o = option_and_then (λ e. value_level e.1) o
 
-abbrev role_in : Option Entry → Option Role
-role_in o = option_and_then (λ e. value_role e.1) o
+abbrev entry_role : Option Entry → Option Role
+entry_role o = option_and_then (λ e. value_role e.1) o
 
 same_octets : (this : Row) (e : Entry) → key_entry this ≡ Some e → value_key e.1 ≡ row_key this
-same_octets (row.Group address key level) e is = ap key_in (sym is)
-same_octets (row.Tool device key) e is = ap key_in (sym is)
+same_octets (row.Group address key level) e is = ap entry_key (sym is)
+same_octets (row.Tool device key) e is = ap entry_key (sym is)
 same_octets (row.Role channel sender role) e is = absurd cc
 
 same_level : (this : Row) (e : Entry) → key_entry this ≡ Some e → value_level e.1 ≡ row_level this
-same_level (row.Group address key level) e is = ap level_in (sym is)
-same_level (row.Tool device key) e is = ap level_in (sym is)
+same_level (row.Group address key level) e is = ap entry_level (sym is)
+same_level (row.Tool device key) e is = ap entry_level (sym is)
 same_level (row.Role channel sender role) e is = absurd cc
 
 pub key_says : (rows : List Row) (index : List Entry) (wanted : Channel) → AreInOrder (key_entries rows) index
@@ -146,7 +149,7 @@ level_says rows index wanted order =
 same_role : (this : Row) (e : Entry) → role_entry this ≡ Some e → value_role e.1 ≡ row_role this
 same_role (row.Group address key level) e is = absurd cc
 same_role (row.Tool device key) e is = absurd cc
-same_role (row.Role channel sender role) e is = ap role_in (sym is)
+same_role (row.Role channel sender role) e is = ap entry_role (sym is)
 
 role_searched : (rows : List Row) (wanted : Channel) (sender : Option IndAddr)
     → option_and_then value_role (lookup (same_key (under.Role wanted sender)) (role_entries rows))
@@ -165,6 +168,72 @@ unfolding named_role
 role_says rows index wanted sender order =
     ap (option_and_then value_role) (says_same (role_entries rows) index (under.Role wanted sender) order)
     ∙ role_searched rows wanted sender
+
+pub all_roles_say : (rows : List Row) (index : List Entry) (wanted : Channel) (sender : IndAddr)
+    → AreInOrder (role_entries rows) index
+    → role_in index wanted sender ≡ role_of rows wanted sender
+unfolding role_of
+all_roles_say rows index wanted sender order i =
+    option_or (role_says rows index wanted (Some sender) order i)
+    (option_or (role_says rows index wanted None order i) (device_role wanted sender))
+
+-- ---- the answers of tables
+
+pub record KeyAnswer (rows : List Row) (wanted : Channel) (answer : Option (List ℕ)) : Type 0 where
+  pub key : answer ≡ key_of rows wanted
+  pub there : is_some answer ≡ has_key rows wanted
+  pub each : EachSays rows (is_key_row wanted) row_key answer
+
+pub key_answer : {rows : List Row} {keys roles : List Entry} {expanded : List (List ℕ)} (wanted : Channel)
+    (answer : Option (List ℕ))
+    → AreIndexed rows keys roles expanded → answer ≡ key_in keys wanted → KeyAnswer rows wanted answer
+key_answer {rows} {keys} wanted answer kept is =
+    let key = is ∙ key_says rows keys wanted kept.keys_are in
+    subst (KeyAnswer rows wanted) (sym key) (record {
+      key = refl;
+      there = key_where rows wanted;
+      each = each_key rows wanted kept.stand;
+    })
+
+pub record LevelAnswer (rows : List Row) (wanted : Channel) (answer : Option Level) : Type 0 where
+  pub level : answer ≡ level_of rows wanted
+  pub there : is_some answer ≡ has_key rows wanted
+  pub each : EachSays rows (is_key_row wanted) row_level answer
+
+pub level_answer : {rows : List Row} {keys roles : List Entry} {expanded : List (List ℕ)} (wanted : Channel)
+    (answer : Option Level)
+    → AreIndexed rows keys roles expanded → answer ≡ level_in keys wanted → LevelAnswer rows wanted answer
+level_answer {rows} {keys} wanted answer kept is =
+    let level = is ∙ level_says rows keys wanted kept.keys_are in
+    subst (LevelAnswer rows wanted) (sym level) (record {
+      level = refl;
+      there = level_where rows wanted;
+      each = each_level rows wanted kept.stand;
+    })
+
+pub record RoleAnswer (rows : List Row) (wanted : Channel) (sender : IndAddr) (answer : Option Role) : Type 0 where
+  pub role : answer ≡ role_of rows wanted sender
+  pub there : is_some answer
+      ≡ (has_role rows wanted (Some sender) || has_role rows wanted None || is_own wanted sender)
+  pub own : EachSays rows (is_role_row wanted (Some sender)) row_role answer
+  pub any : has_role rows wanted (Some sender) ≡ false → EachSays rows (is_role_row wanted None) row_role answer
+  pub device : has_role rows wanted (Some sender) ≡ false → has_role rows wanted None ≡ false
+      → is_own wanted sender ≡ true
+      → answer ≡ Some Observe
+
+pub role_answer : {rows : List Row} {keys roles : List Entry} {expanded : List (List ℕ)} (wanted : Channel)
+    (sender : IndAddr) (answer : Option Role)
+    → AreIndexed rows keys roles expanded → answer ≡ role_in roles wanted sender
+    → RoleAnswer rows wanted sender answer
+role_answer {rows} {roles = roles} wanted sender answer kept is =
+    let role = is ∙ all_roles_say rows roles wanted sender kept.roles_are in
+    subst (RoleAnswer rows wanted sender) (sym role) (record {
+      role = refl;
+      there = role_where rows wanted sender;
+      own = own_says rows wanted sender kept.stand;
+      any = any_says rows wanted sender kept.stand;
+      device = device_says rows wanted sender;
+    })
 
 -- ---- how many there are
 
@@ -187,9 +256,9 @@ key_steps rows index before now order steps =
     (length_permutation (key_entries rows) index order.moved ∙ keys_counted rows) steps
 
 pub role_steps : (rows : List Row) (index : List Entry) (before now : ℕ) → AreInOrder (role_entries rows) index
-    → AddsSteps 1 (length index) before now → AddsSteps 1 (length (filter is_role rows)) before now
+    → AddsSteps 2 (length index) before now → AddsSteps 2 (length (filter is_role rows)) before now
 role_steps rows index before now order steps =
-    subst (λ n. AddsSteps 1 n before now)
+    subst (λ n. AddsSteps 2 n before now)
     (length_permutation (role_entries rows) index order.moved ∙ roles_counted rows) steps
 
 -- ---- expanded keys

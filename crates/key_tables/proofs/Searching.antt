@@ -67,6 +67,35 @@ as_steps rows left before now halves = record {
   most = omega (arith, halves.now_is);
 }
 
+-- the most that one of two searches took
+more_of : (rows a b : ℕ) → 2 ^ a ≤ 2 * rows + 1 → 2 ^ b ≤ 2 * rows + 1
+    → (each : ℕ) × (2 ^ each ≤ 2 * rows + 1) × (a ≤ each) × (b ≤ each)
+more_of rows a b first second = by_test (nat_lt a b) refl
+  where
+    by_test : (less : Bool) → nat_lt a b ≡ less
+        → (each : ℕ) × (2 ^ each ≤ 2 * rows + 1) × (a ≤ each) × (b ≤ each)
+    by_test true is = (b, second, grind (arith, nat_tests, is), omega arith)
+    by_test false is = (a, first, omega arith, grind (arith, nat_tests, is))
+
+pub two_searches : (rows before now later : ℕ) → AddsSteps 1 rows before now → AddsSteps 1 rows now later
+    → AddsSteps 2 rows before later
+two_searches rows before now later first second =
+    let more = more_of rows first.each second.each first.few second.few in
+    record {
+      each = more.0;
+      few = more.1;
+      later = omega (arith, first.later, second.later);
+      most = omega (arith, first.most, second.most, more.2, more.3);
+    }
+
+pub one_of_two : (rows before now : ℕ) → AddsSteps 1 rows before now → AddsSteps 2 rows before now
+one_of_two rows before now one = record {
+  each = one.each;
+  few = one.few;
+  later = one.later;
+  most = omega (arith, one.most);
+}
+
 -- ---- places
 
 -- the row can only be among those that are left

@@ -1,14 +1,20 @@
 -- Plumbing: which keys a set holds, against the rows that they are of, and where a row is in an index.
 use Rattle.std.specs.Prelude.{◌≡◌, ◌||◌, ◌<◌, Bool, not, length, slice_get, List, Option, Some, None}
-use Rattle.std.specs.Option.{option_map}
+use Rattle.std.specs.Option.{option_map, option_or, option_and_then}
 use Rattle.std.specs.List.Sorted.{IsStrictlySortedBy}
 use Rattle.std.specs.Map.{keys_of, lookup}
 use Rattle.std.specs.List.{list_any}
+use Rattle.knx_base.specs.declared.address.IndAddr.{IndAddr}
+use Rattle.key_tables.specs.declared.types.Channel.{Channel}
+use Rattle.key_tables.specs.declared.types.Level.{Level}
+use Rattle.key_tables.specs.declared.types.Role.{Role}
 use Rattle.key_tables.specs.declared.types.Row.{Row}
 use Rattle.key_tables.specs.declared.types.RowKey.{RowKey}
+use Rattle.key_tables.specs.declared.types.RowKey.TheVariants as under
 use Rattle.key_tables.specs.declared.types.RowValue.{RowValue}
 use Rattle.key_tables.specs.Build.{IsCounted}
-use Rattle.key_tables.specs.Index.{same_key, key_cmp, row_key_of, subject_of}
+use Rattle.key_tables.specs.Index.{same_key, key_cmp, row_key_of, subject_of, value_key, value_level, value_role}
+use Rattle.key_tables.specs.Rows.{device_role}
 use Prim.Native.Nat.{ℕ}
 
 abbrev pub holds : List RowKey → RowKey → Bool
@@ -41,3 +47,19 @@ pub record StandsAt (index : List (RowKey × RowValue)) (wanted : RowKey) (place
 abbrev pub IsPlace : List (RowKey × RowValue) → RowKey → Option ℕ → Type 0
 IsPlace index wanted (Some place) = StandsAt index wanted place
 IsPlace index wanted None = lookup (same_key wanted) index ≡ None
+
+-- what an index says of the key of a channel, and of its level
+abbrev pub key_in : List (RowKey × RowValue) → Channel → Option (List ℕ)
+key_in index channel = option_and_then value_key (lookup (same_key (under.Key channel)) index)
+
+abbrev pub level_in : List (RowKey × RowValue) → Channel → Option Level
+level_in index channel = option_and_then value_level (lookup (same_key (under.Key channel)) index)
+
+-- and of a sender on a channel, None being any
+abbrev pub named_in : List (RowKey × RowValue) → Channel → Option IndAddr → Option Role
+named_in index channel sender = option_and_then value_role (lookup (same_key (under.Role channel sender)) index)
+
+abbrev pub role_in : List (RowKey × RowValue) → Channel → IndAddr → Option Role
+role_in index channel sender =
+    option_or (named_in index channel (Some sender))
+    (option_or (named_in index channel None) (device_role channel sender))

@@ -5,6 +5,7 @@
 mod faults;
 mod key_set;
 mod lane_list;
+mod look_ups;
 mod reading;
 mod row_index;
 mod row_list;

@@ -1,9 +1,8 @@
 ghost use Rattle.std.specs.Prelude.{◌≡◌, length};
-ghost use Rattle.std.specs.Map.{lookup};
-ghost use Rattle.key_tables.specs.Index.{same_key, AddsSteps};
+ghost use Rattle.key_tables.specs.Index.{AddsSteps};
 ghost use Rattle.key_tables.specs.Seen.{IsPlace};
 
-use crate::{RowIndex, RowKey, RowValue, Steps};
+use crate::{RowIndex, RowKey, Steps};
 use std::cmp::Ordering;
 use std::marker::Brand;
 use std::sync::ledger::{Blank, Ledger};
@@ -44,25 +43,4 @@ fn find_from<L: Ledger>(index: &RowIndex, wanted: &RowKey, blank: Blank) -> Opti
     ensures { IsPlace index.now wanted.now result }
 {
     search(index, wanted, &mut Steps::<L>::new(blank))
-}
-
-// What stands in the row that is found by the key.
-pub(crate) fn value_counted<L: Ledger>(
-    index: &RowIndex,
-    wanted: &RowKey,
-    steps: &mut Steps<L>,
-) -> Option<RowValue>
-    ensures value { result ≡ lookup (same_key wanted.now) index.now }
-    ensures steps { AddsSteps 1 (length index.now) steps.old steps.new }
-{
-    let place = search(index, wanted, steps)?;
-    Some(index.value_at(place))
-}
-
-// The same, where nobody counts.
-pub(crate) fn value_of(index: &RowIndex, wanted: &RowKey) -> Option<RowValue>
-    ensures { result ≡ lookup (same_key wanted.now) index.now }
-{
-    let place = find(index, wanted)?;
-    Some(index.value_at(place))
 }

@@ -1,17 +1,18 @@
-ghost use Rattle.std.specs.Prelude.{◌≡◌, ◌≢◌, ℕ, ◌||◌, length, true, false, None, Some, is_some, IfSome, IfOk, IfErr, IsOk};
+ghost use Rattle.std.specs.Prelude.{◌≡◌, ◌≢◌, ℕ, ◌||◌, length, slice_get, true, false, None, Some, is_some, IfSome, IfOk, IfErr, IsOk};
 ghost use Rattle.std.specs.List.{filter};
-ghost use Rattle.std.specs.Option.{option_map, option_or, option_and_then};
+ghost use Rattle.std.specs.Option.{option_map, option_or};
 ghost use Rattle.key_tables.specs.Build.{build_fault, is_key, is_role, merged, AreFew, IsFault, NoneTwice, LookUpsMerge};
-ghost use Rattle.key_tables.specs.Index.{value_key, value_level, AddsSteps};
-ghost use Rattle.key_tables.specs.Rows.{is_key_row, is_role_row, row_key, row_level, row_role, is_own, has_key, has_role, EachSays, key_of, level_of, named_role, role_of, channel_of, device_role, keyed};
+ghost use Rattle.key_tables.specs.Index.{AddsSteps};
+ghost use Rattle.key_tables.specs.Rows.{is_key_row, is_role_row, row_key, row_level, row_role, is_own, has_key, has_role, EachSays, key_of, level_of, role_of, channel_of, keyed};
 
-use crate::search::{find, value_counted, value_of};
-use crate::{BuildFault, Channel, Level, Role, Row, RowIndex, RowKey, RowList, RowValue, Steps};
+use crate::look_ups::{key_counted, key_in, level_in, role_counted, role_in};
+use crate::search::find;
+use crate::{BuildFault, Channel, Level, Role, Row, RowIndex, RowKey, RowList, Steps};
 use aes_modes::Key128;
 use knx_base::{GroupAddr, IndAddr};
 use std::alloc::Global;
-use std::marker::{Brand, Model};
-use std::sync::ledger::{Blank, Ledger};
+use std::marker::Model;
+use std::sync::ledger::Ledger;
 
 /// The rows of an installation. No channel has two keys, and no sender two roles on one channel.
 ///
@@ -88,32 +89,20 @@ impl Tables {
     }
 
     /// The key of a channel.
-    #[tactic(auto, using(crate::proofs::Unique::key_where, crate::proofs::Unique::each_key))]
     pub fn key(&self, channel: Channel) -> Option<[u8; 16]>
         ensures key { result ≡ key_of self.now channel }
         ensures there { is_some result ≡ has_key self.now channel }
         ensures each { EachSays self.now (is_key_row channel) row_key result }
     {
-        self.key_value(channel)?.key()
+        key_in(&self.keys, channel)
     }
 
     /// The key of a channel, found in so few steps.
-    #[tactic(auto, using(crate::proofs::Looking::key_says, crate::proofs::Looking::key_steps))]
     pub fn key_counted<L: Ledger>(&self, channel: Channel, steps: &mut Steps<L>) -> Option<[u8; 16]>
         ensures key { result ≡ key_of self.now channel }
         ensures steps { AddsSteps 1 (length (filter is_key self.now)) steps.old steps.new }
     {
-        value_counted(&self.keys, &RowKey::Key(channel), steps)?.key()
-    }
-
-    // What stands in the row of a channel's key.
-    #[tactic(auto, using(crate::proofs::Looking::key_says, crate::proofs::Looking::level_says))]
-    fn key_value(&self, channel: Channel) -> Option<RowValue>
-        ensures key { option_and_then value_key result ≡ key_of self.now channel }
-        ensures level { option_and_then value_level result ≡ level_of self.now channel }
-        ensures stand { build_fault self.now ≡ None }
-    {
-        value_of(&self.keys, &RowKey::Key(channel))
+        key_counted(&self.keys, channel, steps)
     }
 
     /// The key of a channel, with its round keys.
@@ -121,22 +110,20 @@ impl Tables {
         ensures key { option_map (λ key. key.now) result ≡ key_of self.now channel }
     {
         let place = find(&self.keys, &RowKey::Key(channel))?;
-        self.expanded.get(place)
+        expanded_in(&self.expanded, place)
     }
 
     /// The level of a channel that has a key.
-    #[tactic(auto, using(crate::proofs::Unique::level_where, crate::proofs::Unique::each_level))]
     pub fn level(&self, channel: Channel) -> Option<Level>
         ensures level { result ≡ level_of self.now channel }
         ensures there { is_some result ≡ has_key self.now channel }
         ensures each { EachSays self.now (is_key_row channel) row_level result }
     {
-        self.key_value(channel)?.level()
+        level_in(&self.keys, channel)
     }
 
     /// The role of a sender on a channel: its own row's, else that of the row for any sender, else Observe for the
     /// device whose channel it is.
-    #[tactic(auto, unfolding(crate::specs::Rows::role_of), using(crate::proofs::Unique::named_where, crate::proofs::Unique::each_role))]
     pub fn role(&self, channel: Channel, sender: IndAddr) -> Option<Role>
         ensures role { result ≡ role_of self.now channel sender }
         ensures there { is_some result ≡ (has_role self.now channel (Some sender) || has_role self.now channel None
@@ -148,21 +135,10 @@ impl Tables {
             → is_own channel sender ≡ true
             → result ≡ Some Role.Observe }
     {
-        self.role_from::<Brand>(channel, sender, Blank::new(1))
-    }
-
-    fn role_from<L: Ledger>(&self, channel: Channel, sender: IndAddr, blank: Blank) -> Option<Role>
-        requires name { blank.name ≡ L.name }
-        requires parts { blank.parts ≡ L.parts }
-        requires one { blank.parts ≡ 1 }
-        ensures role { result ≡ role_of self.now channel sender }
-        ensures stand { build_fault self.now ≡ None }
-    {
-        self.role_counted(channel, sender, &mut Steps::<L>::new(blank))
+        role_in(&self.roles, channel, sender)
     }
 
     /// The role of a sender on a channel, found in so few steps.
-    #[tactic(auto, unfolding(crate::specs::Rows::role_of))]
     pub fn role_counted<L: Ledger>(
         &self,
         channel: Channel,
@@ -172,39 +148,7 @@ impl Tables {
         ensures role { result ≡ role_of self.now channel sender }
         ensures steps { AddsSteps 2 (length (filter is_role self.now)) steps.old steps.new }
     {
-        match self.named_role(channel, Some(sender), steps) {
-            Some(role) => Some(role),
-            None => self.common_role(channel, sender, steps),
-        }
-    }
-
-    // The role of a sender that has no row of its own.
-    fn common_role<L: Ledger>(
-        &self,
-        channel: Channel,
-        sender: IndAddr,
-        steps: &mut Steps<L>,
-    ) -> Option<Role>
-        ensures role { result ≡ option_or (named_role self.now channel None) (device_role channel sender) }
-        ensures steps { AddsSteps 1 (length (filter is_role self.now)) steps.old steps.new }
-    {
-        match self.named_role(channel, None, steps) {
-            Some(role) => Some(role),
-            None => own_role(channel, sender),
-        }
-    }
-
-    #[tactic(auto, using(crate::proofs::Looking::role_says, crate::proofs::Looking::role_steps))]
-    fn named_role<L: Ledger>(
-        &self,
-        channel: Channel,
-        sender: Option<IndAddr>,
-        steps: &mut Steps<L>,
-    ) -> Option<Role>
-        ensures role { result ≡ named_role self.now channel sender }
-        ensures steps { AddsSteps 1 (length (filter is_role self.now)) steps.old steps.new }
-    {
-        value_counted(&self.roles, &RowKey::Role(channel, sender), steps)?.role()
+        role_counted(&self.roles, channel, sender, steps)
     }
 
     /// The channel of a frame. Without tool access it is the destination, where that is a group with a key. With tool
@@ -247,11 +191,8 @@ impl Tables {
     }
 }
 
-fn own_role(channel: Channel, sender: IndAddr) -> Option<Role>
-    ensures { result ≡ device_role channel sender }
+fn expanded_in(keys: &[Key128], place: usize) -> Option<&Key128>
+    ensures { option_map (λ key. key.now) result ≡ slice_get keys.now place }
 {
-    match channel {
-        Channel::Tool(device) if device == sender => Some(Role::Observe),
-        _ => None,
-    }
+    keys.get(place)
 }

@@ -1,6 +1,6 @@
 use Rattle.std.proofs.Common.{rules, sym}
 use Rattle.key_tables.proofs.Looking.{says_at}
-use Rattle.key_tables.proofs.search.value_counted.Goals as goal
+use Rattle.key_tables.proofs.look_ups.value_counted.Goals as goal
 
 pub returns-clause-value : goal.returns-clause-value
 returns-clause-value g c =

@@ -1,6 +1,6 @@
 use Rattle.std.proofs.Common.{rules, sym}
 use Rattle.key_tables.proofs.Looking.{says_at}
-use Rattle.key_tables.proofs.search.value_of.Goals as goal
+use Rattle.key_tables.proofs.look_ups.value_of.Goals as goal
 
 pub returns : goal.returns
 returns c =
