@@ -1,6 +1,6 @@
 -- The rows of one kind, sorted by what they are found by, ascend: no two of them are found by the same.
 use Prim.Native.Nat.{zero, suc}
-use Rattle.std.proofs.Common.{◌≡◌, ℕ, ◌<◌, ◌+◌, ◌&&◌, Bool, true, false, Ordering, Less, Equal, Greater, arith, List, [], ◌∷◌, length, Option, Some, None, refl, sym, ap, subst, ◌∙◌, slice_index_or, slice_get, option_map}
+use Rattle.std.proofs.Common.{◌≡◌, ℕ, ◌<◌, ◌+◌, false, Ordering, Less, Equal, Greater, arith, List, [], ◌∷◌, length, Option, Some, None, refl, sym, ap, subst, ◌∙◌, slice_index_or, slice_get, option_map}
 use Rattle.std.specs.List.{All, AllByRecursion, IsDistinct, filter_map, cons_option}
 use Rattle.std.specs.List.Sorted.{IsPermutation, IsSortedByKey, IsStrictlySortedBy}
 use Rattle.std.specs.Map.{keys_of}
@@ -10,7 +10,6 @@ use Rattle.std.proofs.lemmas.List.{length-map}
 use Rattle.std.proofs.lemmas.List.Sorted.{IsPermutation-map}
 use Rattle.std.proofs.lemmas.Map.Keys.{IsDistinct-cons, IsDistinct-IsPermutation, apart_from_distinct, sorted_from_all_adjacent}
 use Rattle.std.proofs.lemmas.Option.{slice_get_read}
-use Rattle.key_tables.specs.declared.types.Channel.{Channel}
 use Rattle.key_tables.specs.declared.types.Channel.TheVariants as channel
 use Rattle.key_tables.specs.declared.types.Row.{Row}
 use Rattle.key_tables.specs.declared.types.Row.TheVariants as row
@@ -19,7 +18,7 @@ use Rattle.key_tables.specs.declared.types.RowKey.TheVariants as under
 use Rattle.key_tables.specs.declared.types.RowValue.{RowValue}
 use Rattle.key_tables.specs.contracts.types.RowKeyOrd.TheImpl.{cmp-value}
 use Rattle.key_tables.specs.Build.{repeats, AreApart, NoneTwice}
-use Rattle.key_tables.specs.Index.{same_key, key_cmp, row_key_of, key_entry, role_entry, key_entries, role_entries, AreInOrder}
+use Rattle.key_tables.specs.Index.{same_key, key_cmp, row_key_of, key_entry, role_entry, AreInOrder}
 use Rattle.key_tables.proofs.KeyOrder.{cmp_is, order_is, total, same_is_equal, same_turned}
 
 -- a row repeats another where both are found by the same

@@ -1,7 +1,7 @@
 -- What an index says of a key is what a search in the list of rows says.
 use Prim.Native.Nat.{zero, suc}
-use Rattle.std.proofs.Common.{◌≡◌, ℕ, ◌<◌, ◌+◌, ◌≤◌, ◌*◌, ◌^◌, ◌||◌, Bool, true, false, cond, arith, List, [], ◌∷◌, length, Option, Some, None, find, refl, sym, ap, subst, ◌∙◌, slice_get, option_map}
-use Rattle.std.specs.List.{All, IsDistinct, Contains, filter, filter_map, cons_option}
+use Rattle.std.proofs.Common.{◌≡◌, ℕ, ◌||◌, Bool, true, false, cond, List, [], ◌∷◌, length, Option, Some, None, find, refl, sym, ap, subst, ◌∙◌, slice_get, option_map}
+use Rattle.std.specs.List.{All, IsDistinct, Contains, filter, cons_option}
 use Rattle.std.specs.List.Sorted.{IsPermutation, IsStrictlySortedBy}
 use Rattle.std.specs.Map.{keys_of, lookup}
 use Rattle.std.specs.Option.{option_and_then, option_or, is_some}

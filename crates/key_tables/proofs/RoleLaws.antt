@@ -1,5 +1,5 @@
 -- The role of a sender: whose row it is, where rows say nothing twice.
-use Rattle.std.proofs.Common.{◌≡◌, ◌||◌, Bool, true, false, if◌then◌else◌, List, Option, Some, None, refl, sym, ap, ◌∙◌}
+use Rattle.std.proofs.Common.{◌≡◌, ◌||◌, Bool, true, false, if◌then◌else◌, List, Option, Some, None, refl, ap, ◌∙◌}
 use Rattle.std.specs.Option.{option_or, is_some}
 use Rattle.knx_base.specs.declared.address.IndAddr.{IndAddr}
 use Rattle.key_tables.specs.declared.types.Channel.{Channel}

@@ -1,4 +1,4 @@
-use Rattle.std.proofs.Common.{rules, sym}
+use Rattle.std.proofs.Common.{sym}
 use Rattle.key_tables.proofs.Looking.{says_at}
 use Rattle.key_tables.proofs.look_ups.value_counted.Goals as goal
 

@@ -1,6 +1,5 @@
-use Rattle.std.proofs.Common.{length, ◌≡◌, ◌≤◌, ◌<◌, ◌+◌, ◌-◌, ◌/◌, arith}
-use Rattle.key_tables.specs.Index.{AddsSteps}
-use Rattle.key_tables.proofs.Searching.{Halves, one_step, as_steps, upper_left, lower_left, stands, nowhere}
+use Rattle.std.proofs.Common.{◌+◌, ◌-◌, ◌/◌, arith}
+use Rattle.key_tables.proofs.Searching.{one_step, as_steps, upper_left, lower_left, stands, nowhere}
 use Rattle.key_tables.proofs.search.search.Goals as goal
 
 pub search-preserved-in-Less : goal.search-preserved-in-Less
