@@ -18,7 +18,7 @@ use Rattle.key_tables.specs.declared.types.RowKey.TheVariants as under
 use Rattle.key_tables.specs.declared.types.RowValue.{RowValue}
 use Rattle.key_tables.specs.contracts.types.RowKeyOrd.TheImpl.{cmp-value}
 use Rattle.key_tables.specs.Build.{repeats, AreApart, NoneTwice}
-use Rattle.key_tables.specs.Index.{same_key, key_cmp, row_key_of, key_entry, role_entry, AreInOrder}
+use Rattle.key_tables.specs.Index.{same_key, key_cmp, row_key_of, key_entry, role_entry, key_entries, role_entries, AreInOrder}
 use Rattle.key_tables.proofs.KeyOrder.{cmp_is, order_is, total, same_is_equal, same_turned}
 
 -- a row repeats another where both are found by the same
@@ -115,14 +115,20 @@ sorted_ascend (e ∷ rest) ascend distinct =
     (ascend k e (omega arith) (omega (arith, within, length-map all (λ x. x.0))))))
     (apart_from_distinct same_key (keys_of all) k (k + 1) e.0 distinct (omega arith) within))
 
-pub sorted_in_order : (entry : Row → Option Entry) → IsNamed entry → (rows : List Row) (sorted : List Entry)
-    → NoneTwice rows → IsPermutation (filter_map entry rows) sorted → IsSortedByKey (λ e. e.0) cmp-value.it sorted
-    → AreInOrder (filter_map entry rows) sorted
-sorted_in_order entry named rows sorted once moved ascend = record {
+pub keys_distinct : (rows : List Row) → NoneTwice rows → IsDistinct same_key (keys_of (key_entries rows))
+keys_distinct rows once = entries_distinct key_entry key_named rows once
+
+pub roles_distinct : (rows : List Row) → NoneTwice rows → IsDistinct same_key (keys_of (role_entries rows))
+roles_distinct rows once = entries_distinct role_entry role_named rows once
+
+pub sorted_in_order : (entries sorted : List Entry) → IsDistinct same_key (keys_of entries)
+    → IsPermutation entries sorted → IsSortedByKey (λ e. e.0) cmp-value.it sorted
+    → AreInOrder entries sorted
+sorted_in_order entries sorted distinct moved ascend = record {
   moved = moved;
   ascend = sorted_ascend sorted (subst (λ order. IsSortedByKey (λ e. e.0) order sorted) order_is ascend)
-      (IsDistinct-IsPermutation same_key same_turned (keys_of (filter_map entry rows)) (keys_of sorted)
-      (IsPermutation-map (λ e. e.0) (filter_map entry rows) sorted moved) (entries_distinct entry named rows once));
+      (IsDistinct-IsPermutation same_key same_turned (keys_of entries) (keys_of sorted)
+      (IsPermutation-map (λ e. e.0) entries sorted moved) distinct);
 }
 
 -- ---- one of them is compared

@@ -1,8 +1,8 @@
 ghost use Rattle.std.specs.Prelude.{◌≡◌, ◌<◌, ◌+◌, length, slice_get, Some, IfOk, option_map};
-ghost use Rattle.std.specs.List.{filter_map};
+ghost use Rattle.std.specs.List.{IsDistinct};
 ghost use Rattle.std.specs.List.Sorted.{IsStrictlySortedBy};
 ghost use Rattle.std.specs.Map.{keys_of};
-ghost use Rattle.key_tables.specs.Index.{key_cmp, key_entries, role_entries, value_key, expanded_of, AreInOrder};
+ghost use Rattle.key_tables.specs.Index.{same_key, key_cmp, key_entries, role_entries, value_key, expanded_of, AreInOrder};
 
 use crate::{Row, RowKey, RowList, RowValue, Steps};
 use aes_modes::Key128;
@@ -36,21 +36,29 @@ impl Model for RowIndex {
 
 impl RowIndex {
     /// The rows that hold a key.
+    #[tactic(auto, using(crate::proofs::Indexing::keys_distinct))]
     pub fn of_keys(alloc: Global, rows: &RowList) -> Result<RowIndex, AllocError>
         ensures { IfOk result (λ index. AreInOrder (key_entries rows.now) index) }
     {
-        let mut entries = key_entries(alloc, rows.as_slice())?;
-        entries.sort_unstable_by_key(|entry| entry.0);
-        Ok(RowIndex { entries })
+        let entries = key_entries(alloc, rows.as_slice())?;
+        Ok(RowIndex::sorted(entries))
     }
 
     /// The rows that give a role.
+    #[tactic(auto, using(crate::proofs::Indexing::roles_distinct))]
     pub fn of_roles(alloc: Global, rows: &RowList) -> Result<RowIndex, AllocError>
         ensures { IfOk result (λ index. AreInOrder (role_entries rows.now) index) }
     {
-        let mut entries = role_entries(alloc, rows.as_slice())?;
+        let entries = role_entries(alloc, rows.as_slice())?;
+        Ok(RowIndex::sorted(entries))
+    }
+
+    fn sorted(mut entries: Vec<(RowKey, RowValue)>) -> RowIndex
+        requires { IsDistinct same_key (keys_of entries.items) }
+        ensures { AreInOrder entries.items result }
+    {
         entries.sort_unstable_by_key(|entry| entry.0);
-        Ok(RowIndex { entries })
+        RowIndex { entries }
     }
 
     /// How many rows there are.

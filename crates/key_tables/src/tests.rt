@@ -1,12 +1,18 @@
-ghost use Rattle.std.specs.Prelude.{◌≡◌};
-ghost use Rattle.std.specs.List.{list_any};
+ghost use Rattle.std.specs.Prelude.{◌≡◌, ◌+◌, ◌≤◌, length};
+ghost use Rattle.std.specs.List.{filter, list_any};
+ghost use Rattle.key_tables.specs.Build.{is_key, is_role};
 ghost use Rattle.key_tables.specs.Lanes.{is_any};
+ghost use Rattle.key_tables.specs.Rows.{key_of, role_of};
 
 use crate::{
-    BuildFault, Channel, Lane, Level, Role, Row, RowList, Tables, TablesFault, lanes, read_tables,
+    BuildFault, Channel, Lane, Level, Role, Row, RowIndex, RowKey, RowList, RowValue, Steps,
+    Tables, TablesFault, lanes, read_tables,
 };
 use knx_base::{Cause, GroupAddr, IndAddr};
 use std::alloc::Global;
+use std::cmp::Ordering;
+use std::marker::Brand;
+use std::sync::ledger::{Blank, Ledger};
 use std::test::Fail;
 
 const KEY: [u8; 16] = [0, 1, 2, 3, 4, 5, 6, 7, 8, 9, 10, 11, 12, 13, 14, 15];
@@ -182,6 +188,162 @@ fn there_are_as_many_roles_as_may_be_and_no_more(rt: HostRuntime) -> Result<(), 
         Some(BuildFault::TooMany(16384))
     );
     Ok(())
+}
+
+// The key of a device in full tables: its address, and zeros.
+fn key_of_device(device: u16) -> [u8; 16] {
+    let [high, low] = device.to_be_bytes();
+    let mut key = [0; 16];
+    key[0] = high;
+    key[1] = low;
+    key
+}
+
+// The rows stand from the last to the first, so that building has to turn them round.
+fn full_rows(alloc: Global) -> Result<Vec<Row>, Fail> {
+    let mut rows = Vec::new(alloc);
+    for place in 0..4096 {
+        let device = 4095 - place;
+        rows.push(tool_key(IndAddr(device), key_of_device(device)))?;
+    }
+    for place in 0..16384 {
+        let sender = 16383 - place;
+        rows.push(role_on(
+            Channel::Tool(IndAddr(sender & 127)),
+            Some(IndAddr(sender >> 7)),
+            Role::Manage,
+        ))?;
+    }
+    Ok(rows)
+}
+
+#[test]
+fn each_row_of_full_tables_is_found(rt: HostRuntime) -> Result<(), Fail> {
+    let tables = Tables::build(rt.alloc(), &full_rows(rt.alloc())?)?;
+    for device in 0..4096 {
+        let channel = Channel::Tool(IndAddr(device));
+        assert_eq!(rt; tables.key(channel), Some(key_of_device(device)));
+    }
+    for sender in 0..16384u16 {
+        let channel = Channel::Tool(IndAddr(sender & 127));
+        assert_eq!(rt;
+            tables.role(channel, IndAddr(sender >> 7)),
+            Some(Role::Manage)
+        );
+    }
+    assert_eq!(rt; tables.key(Channel::Tool(IndAddr(4096))), None);
+    assert_eq!(rt;
+        tables.role(Channel::Tool(IndAddr(127)), IndAddr(128)),
+        None
+    );
+    Ok(())
+}
+
+// The last row says again what the first says: merging is refused at its place, and so is building.
+#[test]
+fn a_row_that_says_again_is_found_in_full_tables(rt: HostRuntime) -> Result<(), Fail> {
+    let mut rows = full_rows(rt.alloc())?;
+    rows.push(role_on(
+        Channel::Tool(IndAddr(127)),
+        Some(IndAddr(127)),
+        Role::Observe,
+    ))?;
+    assert_eq!(rt;
+        fault_of(Tables::build(rt.alloc(), &rows)),
+        Some(BuildFault::Twice(20480))
+    );
+    assert_eq!(rt;
+        fault_of(Tables::merge(rt.alloc(), &[], &rows)),
+        Some(BuildFault::Twice(20480))
+    );
+    assert_eq!(rt;
+        fault_of(Tables::merge(rt.alloc(), &rows[..20480], &rows)),
+        None
+    );
+    Ok(())
+}
+
+#[test]
+fn rows_stand_by_their_channel_and_sender(rt: HostRuntime) -> Result<(), Fail> {
+    ordered::<Brand>(rt, Blank::new(1))
+}
+
+fn ordered<L: Ledger>(rt: HostRuntime, blank: Blank) -> Result<(), Fail>
+    requires name { blank.name ≡ L.name }
+    requires parts { blank.parts ≡ L.parts }
+    requires one { blank.parts ≡ 1 }
+{
+    let rows = read_tables(rt.alloc(), TEXT)?;
+    let keys = RowIndex::of_keys(rt.alloc(), &rows)?;
+    let roles = RowIndex::of_roles(rt.alloc(), &rows)?;
+    if keys.len() != 3 || roles.len() != 3 {
+        return Err(Fail::from("other rows"));
+    }
+    let mut steps = Steps::<L>::new(blank);
+    let device = RowKey::Key(Channel::Tool(DEVICE));
+    assert_eq!(rt;
+        keys.compare_at(0, &RowKey::Key(LAMP), &mut steps),
+        Ordering::Equal
+    );
+    assert_eq!(rt; keys.compare_at(1, &device, &mut steps), Ordering::Less);
+    assert_eq!(rt; keys.compare_at(2, &device, &mut steps), Ordering::Equal);
+    let sender = RowKey::Role(LAMP, Some(SENDER));
+    assert_eq!(rt; roles.compare_at(0, &sender, &mut steps), Ordering::Less);
+    assert_eq!(rt; roles.compare_at(1, &sender, &mut steps), Ordering::Equal);
+    assert_eq!(rt; roles.compare_at(2, &sender, &mut steps), Ordering::Greater);
+    assert_eq!(rt; keys.value_at(2) == RowValue::Key(OTHER_KEY, None), true);
+    assert_eq!(rt; roles.value_at(0) == RowValue::Role(Role::Observe), true);
+    Ok(())
+}
+
+// The key rows of one channel are found in a step, and there being none is too.
+fn key_in_a_step<L: Ledger>(
+    tables: &Tables,
+    channel: Channel,
+    steps: &mut Steps<L>,
+) -> Option<[u8; 16]>
+    requires { length (filter is_key tables.now) ≡ 1 }
+    ensures key { result ≡ key_of tables.now channel }
+    ensures steps { steps.new ≤ steps.old + 1 }
+{
+    tables.key_counted(channel, steps)
+}
+
+// The same of one role row, which is asked for the sender and for any.
+fn role_in_two_steps<L: Ledger>(
+    tables: &Tables,
+    channel: Channel,
+    sender: IndAddr,
+    steps: &mut Steps<L>,
+) -> Option<Role>
+    requires { length (filter is_role tables.now) ≡ 1 }
+    ensures role { result ≡ role_of tables.now channel sender }
+    ensures steps { steps.new ≤ steps.old + 2 }
+{
+    tables.role_counted(channel, sender, steps)
+}
+
+fn in_few_steps<L: Ledger>(rt: HostRuntime, blank: Blank) -> Result<(), Fail>
+    requires name { blank.name ≡ L.name }
+    requires parts { blank.parts ≡ L.parts }
+    requires one { blank.parts ≡ 1 }
+{
+    let rows = [lamp_key(KEY), role_on(LAMP, Some(SENDER), Role::Command)];
+    let tables = Tables::build(rt.alloc(), &rows)?;
+    let mut steps = Steps::<L>::new(blank);
+    assert_eq!(rt; key_in_a_step(&tables, LAMP, &mut steps), Some(KEY));
+    assert_eq!(rt; key_in_a_step(&tables, BLIND, &mut steps), None);
+    assert_eq!(rt;
+        role_in_two_steps(&tables, LAMP, SENDER, &mut steps),
+        Some(Role::Command)
+    );
+    assert_eq!(rt; role_in_two_steps(&tables, LAMP, DEVICE, &mut steps), None);
+    Ok(())
+}
+
+#[test]
+fn one_group_and_one_role_are_found_in_few_steps(rt: HostRuntime) -> Result<(), Fail> {
+    in_few_steps::<Brand>(rt, Blank::new(1))
 }
 
 #[test]
