@@ -15,3 +15,4 @@ pub mod NamedLanes
 pub mod SortedLanes
 pub mod SendersLanes
 mod TextOnce
+mod FewSteps

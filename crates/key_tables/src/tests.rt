@@ -2,7 +2,6 @@ ghost use Rattle.std.specs.Prelude.{◌≡◌, ◌+◌, ◌≤◌, length};
 ghost use Rattle.std.specs.List.{filter, list_any};
 ghost use Rattle.key_tables.specs.Build.{is_key, is_role};
 ghost use Rattle.key_tables.specs.Lanes.{is_any};
-ghost use Rattle.key_tables.specs.Rows.{key_of, role_of};
 
 use crate::{
     BuildFault, Channel, Lane, Level, Role, Row, RowIndex, RowKey, RowList, RowValue, Steps,
@@ -239,9 +238,10 @@ fn each_row_of_full_tables_is_found(rt: HostRuntime) -> Result<(), Fail> {
     Ok(())
 }
 
-// The last row says again what the first says: merging is refused at its place, and so is building.
+// The last row says again what another says: it is refused at its place, whether it is built or merged.
 #[test]
 fn a_row_that_says_again_is_found_in_full_tables(rt: HostRuntime) -> Result<(), Fail> {
+    let full = full_rows(rt.alloc())?;
     let mut rows = full_rows(rt.alloc())?;
     rows.push(role_on(
         Channel::Tool(IndAddr(127)),
@@ -256,60 +256,59 @@ fn a_row_that_says_again_is_found_in_full_tables(rt: HostRuntime) -> Result<(), 
         fault_of(Tables::merge(rt.alloc(), &[], &rows)),
         Some(BuildFault::Twice(20480))
     );
-    assert_eq!(rt;
-        fault_of(Tables::merge(rt.alloc(), &rows[..20480], &rows)),
-        None
-    );
+    assert_eq!(rt; fault_of(Tables::merge(rt.alloc(), &full, &rows)), None);
     Ok(())
+}
+
+// How the first three rows stand to a key.
+fn standing<L: Ledger>(index: &RowIndex, wanted: RowKey, blank: Blank) -> [Ordering; 3]
+    requires name { blank.name ≡ L.name }
+    requires parts { blank.parts ≡ L.parts }
+    requires one { blank.parts ≡ 1 }
+    requires three { length index.now ≡ 3 }
+{
+    let mut steps = Steps::<L>::new(blank);
+    [
+        index.compare_at(0, &wanted, &mut steps),
+        index.compare_at(1, &wanted, &mut steps),
+        index.compare_at(2, &wanted, &mut steps),
+    ]
 }
 
 #[test]
 fn rows_stand_by_their_channel_and_sender(rt: HostRuntime) -> Result<(), Fail> {
-    ordered::<Brand>(rt, Blank::new(1))
-}
-
-fn ordered<L: Ledger>(rt: HostRuntime, blank: Blank) -> Result<(), Fail>
-    requires name { blank.name ≡ L.name }
-    requires parts { blank.parts ≡ L.parts }
-    requires one { blank.parts ≡ 1 }
-{
     let rows = read_tables(rt.alloc(), TEXT)?;
     let keys = RowIndex::of_keys(rt.alloc(), &rows)?;
     let roles = RowIndex::of_roles(rt.alloc(), &rows)?;
     if keys.len() != 3 || roles.len() != 3 {
         return Err(Fail::from("other rows"));
     }
-    let mut steps = Steps::<L>::new(blank);
-    let device = RowKey::Key(Channel::Tool(DEVICE));
     assert_eq!(rt;
-        keys.compare_at(0, &RowKey::Key(LAMP), &mut steps),
-        Ordering::Equal
+        standing::<Brand>(&keys, RowKey::Key(BLIND), Blank::new(1)),
+        [Ordering::Less, Ordering::Equal, Ordering::Greater]
     );
-    assert_eq!(rt; keys.compare_at(1, &device, &mut steps), Ordering::Less);
-    assert_eq!(rt; keys.compare_at(2, &device, &mut steps), Ordering::Equal);
-    let sender = RowKey::Role(LAMP, Some(SENDER));
-    assert_eq!(rt; roles.compare_at(0, &sender, &mut steps), Ordering::Less);
-    assert_eq!(rt; roles.compare_at(1, &sender, &mut steps), Ordering::Equal);
-    assert_eq!(rt; roles.compare_at(2, &sender, &mut steps), Ordering::Greater);
+    assert_eq!(rt;
+        standing::<Brand>(&roles, RowKey::Role(LAMP, Some(SENDER)), Blank::new(1)),
+        [Ordering::Less, Ordering::Equal, Ordering::Greater]
+    );
     assert_eq!(rt; keys.value_at(2) == RowValue::Key(OTHER_KEY, None), true);
     assert_eq!(rt; roles.value_at(0) == RowValue::Role(Role::Observe), true);
     Ok(())
 }
 
-// The key rows of one channel are found in a step, and there being none is too.
+// Where there is one key row, a key is found in one step, and so is that there is none.
 fn key_in_a_step<L: Ledger>(
     tables: &Tables,
     channel: Channel,
     steps: &mut Steps<L>,
 ) -> Option<[u8; 16]>
     requires { length (filter is_key tables.now) ≡ 1 }
-    ensures key { result ≡ key_of tables.now channel }
-    ensures steps { steps.new ≤ steps.old + 1 }
+    ensures { steps.new ≤ steps.old + 1 }
 {
     tables.key_counted(channel, steps)
 }
 
-// The same of one role row, which is asked for the sender and for any.
+// Where there is one role row, it is asked for the sender and for any.
 fn role_in_two_steps<L: Ledger>(
     tables: &Tables,
     channel: Channel,
@@ -317,33 +316,53 @@ fn role_in_two_steps<L: Ledger>(
     steps: &mut Steps<L>,
 ) -> Option<Role>
     requires { length (filter is_role tables.now) ≡ 1 }
-    ensures role { result ≡ role_of tables.now channel sender }
-    ensures steps { steps.new ≤ steps.old + 2 }
+    ensures { steps.new ≤ steps.old + 2 }
 {
     tables.role_counted(channel, sender, steps)
 }
 
-fn in_few_steps<L: Ledger>(rt: HostRuntime, blank: Blank) -> Result<(), Fail>
+fn asked_in_few_steps<L: Ledger>(
+    tables: &Tables,
+    blank: Blank,
+) -> ([Option<[u8; 16]>; 2], [Option<Role>; 2])
     requires name { blank.name ≡ L.name }
     requires parts { blank.parts ≡ L.parts }
     requires one { blank.parts ≡ 1 }
+    requires one_key { length (filter is_key tables.now) ≡ 1 }
+    requires one_role { length (filter is_role tables.now) ≡ 1 }
 {
-    let rows = [lamp_key(KEY), role_on(LAMP, Some(SENDER), Role::Command)];
-    let tables = Tables::build(rt.alloc(), &rows)?;
     let mut steps = Steps::<L>::new(blank);
-    assert_eq!(rt; key_in_a_step(&tables, LAMP, &mut steps), Some(KEY));
-    assert_eq!(rt; key_in_a_step(&tables, BLIND, &mut steps), None);
-    assert_eq!(rt;
-        role_in_two_steps(&tables, LAMP, SENDER, &mut steps),
-        Some(Role::Command)
-    );
-    assert_eq!(rt; role_in_two_steps(&tables, LAMP, DEVICE, &mut steps), None);
-    Ok(())
+    let keys = [
+        key_in_a_step(tables, LAMP, &mut steps),
+        key_in_a_step(tables, BLIND, &mut steps),
+    ];
+    let roles = [
+        role_in_two_steps(tables, LAMP, SENDER, &mut steps),
+        role_in_two_steps(tables, LAMP, DEVICE, &mut steps),
+    ];
+    (keys, roles)
 }
 
 #[test]
 fn one_group_and_one_role_are_found_in_few_steps(rt: HostRuntime) -> Result<(), Fail> {
-    in_few_steps::<Brand>(rt, Blank::new(1))
+    let rows = [
+        Row::Group {
+            address: GroupAddr(0x0a03),
+            key: KEY,
+            level: Level::Conf,
+        },
+        Row::Role {
+            channel: LAMP,
+            sender: Some(SENDER),
+            role: Role::Command,
+        },
+    ];
+    let tables = Tables::build(rt.alloc(), &rows)?;
+    assert_eq!(rt;
+        asked_in_few_steps::<Brand>(&tables, Blank::new(1)),
+        ([Some(KEY), None], [Some(Role::Command), None])
+    );
+    Ok(())
 }
 
 #[test]
