@@ -10,6 +10,8 @@ use Rattle.std.proofs.lemmas.List.Splits.{slice_split-cons_yes, slice_split-cons
 use Rattle.std.proofs.lemmas.List.Sums.{fails_before_first, passes_at_first, prefix_len-le-length}
 use Rattle.std.specs.Str.{IsUtf8}
 use Rattle.std.proofs.lemmas.Str.{IsUtf8-from_ascii}
+use Rattle.std.proofs.lemmas.List.Quantifiers.{position-Some}
+use Rattle.memchr.specs.Find.{IsFirstByte, is_byte}
 use Rattle.text_lines.specs.Lines.{is_blank, is_text, is_word, words_of}
 
 chosen : (b : Bool) (x n : ℕ) → cond b (Some x) None ≡ Some n → (b ≡ true) × (x ≡ n)
@@ -160,6 +162,35 @@ pub text_is_utf8 : (text : List ℕ) → list_all is_text text ≡ true → IsUt
 text_is_utf8 text e = IsUtf8-from_ascii text (text_ascii text e)
 
 -- ---- lines
+
+hit : (octet : ℕ) → (octet == 10) ≡ true → (octet == 10) ≡ false → ⊥
+hit octet is is_not = cc
+
+same_place : (k n : ℕ) → (n < k → ⊥) → (k < n → ⊥) → k ≡ n
+same_place k n not_before not_after = omega (arith, not_before, not_after)
+
+-- a search for a line feed finds the first
+pub first_place : (text : List ℕ) (found : Option ℕ) → IsFirstByte (is_byte 10) text found
+    → found ≡ position (λ octet. octet == 10) text
+first_place text None first = by (position (λ octet. octet == 10) text) refl
+  where
+    by : (place : Option ℕ) → position (λ octet. octet == 10) text ≡ place → None ≡ place
+    by None is = refl
+    by (Some n) is =
+        let at = position-Some (λ (octet : ℕ). octet == 10) text n 0 is in
+        absurd (first n (omega arith) at.0 at.1)
+first_place text (Some k) first = by (position (λ octet. octet == 10) text) refl
+  where
+    by : (place : Option ℕ) → position (λ octet. octet == 10) text ≡ place → Some k ≡ place
+    by None is =
+        let over = no_place (λ octet. octet == 10) text is in
+        let before : k < position_or_len (λ octet. octet == 10) text = omega (arith, over, first.0.high) in
+        absurd (hit (get_or text k 0) first.1 (fails_before_first (λ octet. octet == 10) text k 0 before))
+    by (Some n) is =
+        let at = position-Some (λ (octet : ℕ). octet == 10) text n 0 is in
+        let not_before : n < k → ⊥ = λ less. first.0.before n (omega arith) less at.1 in
+        let not_after : k < n → ⊥ = λ more. hit (get_or text k 0) first.1 (at.2 k more) in
+        ap Some (same_place k n not_before not_after)
 
 lines_of_more : (part : List ℕ) (text : List ℕ) (parts : List (List ℕ))
     → slice_split (λ octet. octet == 10) text ≡ parts → 0 < length parts

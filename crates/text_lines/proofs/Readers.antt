@@ -1,6 +1,7 @@
 -- Reading on composes, and what is told of the current file stays told.
-use Rattle.std.proofs.Common.{◌≡◌, ℕ, ◌+◌, ◌≤◌, List, [], ◌∷◌, ◌++◌, length, drop, Option, Some, None, IsSome, subst, refl, sym, ap, ◌∙◌, append-nil, arith}
+use Rattle.std.proofs.Common.{◌≡◌, ℕ, ◌+◌, ◌-◌, ◌≤◌, List, [], ◌∷◌, ◌++◌, length, take, drop, Option, Some, None, IsSome, subst, refl, sym, ap, ◌∙◌, append-nil, length-take, arith}
 use Rattle.std.specs.Option.{IsSomeAnd}
+use Rattle.std.proofs.lemmas.List.{drop-drop, drop-take}
 use Rattle.knx_base.specs.Files.{File, Seen, Holds, octets_named}
 use Rattle.text_lines.specs.Reading.{CurrentHas, WhereTold, ahead, GoesOn, OthersStay, TakesOctet, count_of}
 
@@ -101,3 +102,38 @@ pub goes_octet : (old mid new : Seen) (held between kept : List ℕ) (n all octe
 goes_octet old mid new held between kept n all octet None is all_is first then_ = absurd cc
 goes_octet old mid new held between kept n all octet (Some b) is all_is first then_ =
     subst (GoesOn old new held kept) (sym all_is) (goes_then old mid new held between kept n 1 first then_)
+
+-- what is ahead, from one moment to the next
+pub given_then : (start now next : Seen) (held between kept line : List ℕ) (n : ℕ) → GoesOn start now held between n
+    → WhereTold start (λ octets. ahead start held octets ≡ line ++ ahead now between octets)
+    → WhereTold now (λ octets. ahead now between octets ≡ ahead next kept octets)
+    → WhereTold start (λ octets. ahead start held octets ≡ line ++ ahead next kept octets)
+given_then start now next held between kept line n goes given more = λ octets has.
+    given octets has ∙ ap (λ (rest : List ℕ). line ++ rest) (more octets
+    (has_same start now held between n goes octets has))
+
+-- the end was found, where nothing is held
+pub none_ahead : (start now next : Seen) (held between kept line : List ℕ) (n : ℕ) → kept ≡ []
+    → GoesOn start now held between n
+    → WhereTold start (λ octets. ahead start held octets ≡ line ++ ahead next kept octets)
+    → WhereTold now (λ octets. drop next.place octets ≡ [])
+    → (kept ≡ []) × WhereTold start (λ octets. (ahead start held octets ≡ line) × (drop next.place octets ≡ []))
+none_ahead start now next held between kept line n empty goes given ended = (
+  empty,
+  λ octets has.
+      let end = ended octets (has_same start now held between n goes octets has) in
+      let nothing : ahead next kept octets ≡ [] =
+      ap (λ (front : List ℕ). front ++ drop next.place octets) empty ∙ end in
+      (given octets has ∙ ap (λ (rest : List ℕ). line ++ rest) nothing ∙ append-nil line, end),
+)
+
+-- what is held of a store, without its front
+pub front_taken : (store : List ℕ) (from to count : ℕ) → from ≤ to
+    → count ≤ length (take (to - from) (drop from store))
+    → take (to - (from + count)) (drop (from + count) store) ≡ drop count (take (to - from) (drop from store))
+front_taken store from to count ordered within =
+    let all : count + (to - (from + count)) ≡ to - from =
+    omega (arith, ordered, within, length-take (to - from) (drop from store)) in
+    ap (take (to - (from + count))) (sym (drop-drop count from store))
+    ∙ sym (drop-take count (to - (from + count)) (drop from store))
+    ∙ ap (λ (n : ℕ). drop count (take n (drop from store))) all

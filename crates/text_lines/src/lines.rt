@@ -5,6 +5,7 @@ ghost use Rattle.std.specs.Str.Lines.{lines, strip_carriage_return};
 ghost use Rattle.text_lines.specs.Lines.{is_blank, is_text, words_of, is_comment, Says, line_of, LinesState};
 
 use knx_base::Cause;
+use memchr::memchr;
 use std::marker::Model;
 
 #[cfg(test)]
@@ -67,11 +68,11 @@ fn first_line(text: &[u8]) -> Option<(&[u8], &[u8])>
     }
 }
 
-fn place_of_line_feed(text: &[u8]) -> Option<usize>
+pub(crate) fn place_of_line_feed(text: &[u8]) -> Option<usize>
     ensures place { result ≡ position (λ octet. octet == 10) text.now }
     ensures within { IfSome result (λ place. place < length text.now) }
 {
-    text.iter().position(|octet| *octet == b'\n')
+    memchr(b'\n', text)
 }
 
 pub(crate) fn without_carriage_return(line: &[u8]) -> &[u8]

@@ -78,6 +78,33 @@ impl Source {
         Ok(())
     }
 
+    /// Reads the next octets of the current file where none are held, and holds none only at its end.
+    pub fn refill<F: Files>(&mut self, files: &mut F) -> Result<(), Failed>
+        requires current { IsSome (F.seen files.old).current }
+        ensures told { (F.seen files.new).told ≡ (F.seen files.old).told }
+        ensures others { OthersStay (F.seen files.old) (F.seen files.new) }
+        ensures goes { OnOk result (GoesOn (F.seen files.old) (F.seen files.new) self.old self.new 0) }
+        ensures given { OnOk result (WhereTold (F.seen files.old)
+            (λ octets. ahead (F.seen files.old) self.old octets ≡ ahead (F.seen files.new) self.new octets)) }
+        ensures end { OnOk result (self.new ≡ [] → WhereTold (F.seen files.old)
+            (λ octets. drop (F.seen files.new).place octets ≡ [])) }
+        ensures failed { OnErr result ((self.old ≡ []) × (self.new ≡ [])) }
+        ensures cause { HasCause (F.seen files.old).faults (F.seen files.new).faults result }
+    {
+        if !self.is_empty() {
+            return Ok(());
+        }
+        self.fill(files)
+    }
+
+    /// Takes so many of the octets that are held.
+    pub(crate) fn take_front(&mut self, count: usize)
+        requires held { count ≤ length self.old }
+        ensures rest { self.new ≡ drop count self.old }
+    {
+        self.from += count;
+    }
+
     /// Takes the next octet of the current file, `None` at its end.
     pub fn next<F: Files>(&mut self, files: &mut F) -> Result<Option<u8>, Failed>
         requires current { IsSome (F.seen files.old).current }

@@ -1,11 +1,12 @@
-ghost use Rattle.std.specs.Prelude.{◌≡◌, ℕ, ◌+◌, ◌≤◌, ◌<◌, ◌↔◌, ◌≢◌, List, [], ◌∷◌, ◌++◌, length, take, nat_lt, if◌then◌else◌, IsTrue, IsSome, IfOk, OnErr};
+ghost use Rattle.std.specs.Prelude.{◌≡◌, ℕ, ◌+◌, ◌≤◌, ◌<◌, ◌↔◌, ◌≢◌, List, [], ◌∷◌, ◌++◌, length, take, nat_lt, if◌then◌else◌, IsTrue, IsFalse, IsSome, IfOk, OnErr};
 ghost use Rattle.std.specs.Str.Lines.{strip_carriage_return};
 ghost use Rattle.knx_base.specs.Faults.{HasCause};
 ghost use Rattle.knx_base.specs.Files.{Seen};
+ghost use Rattle.text_lines.specs.Pieces.{IsOneLine, TakesPiece};
 ghost use Rattle.text_lines.specs.Reading.{GoesOn, OthersStay, ReadsLine, least_of};
 
 use crate::Source;
-use crate::lines::MOST_OCTETS;
+use crate::lines::{MOST_OCTETS, place_of_line_feed};
 use knx_base::{Failed, Files};
 use std::marker::Model;
 
@@ -65,19 +66,44 @@ impl TextLine {
         self.len = 0;
     }
 
-    fn is_full(&self) -> bool
-        ensures full { IsTrue result ↔ (length self.now ≡ 1025) }
-        ensures room { length self.now ≤ 1025 }
+    // Adds these octets, if there is room for them. The answer is whether there is.
+    fn extend(&mut self, octets: &[u8]) -> bool
+        ensures room { length self.new ≤ 1025 }
+        ensures added { IsTrue result → self.new ≡ self.old ++ octets.now }
+        ensures long { IsFalse result → 1025 < length self.old + length octets.now }
     {
-        self.len == ROOM
+        if octets.len() > ROOM - self.len {
+            return false;
+        }
+        let end = self.len + octets.len();
+        self.store[self.len..end].copy_from_slice(octets);
+        self.len = end;
+        true
     }
 
-    fn push(&mut self, octet: u8)
-        requires room { length self.old < 1025 }
-        ensures added { self.new ≡ self.old ++ octet ∷ [] }
+    // Takes the octets that are held up to a line feed, and it, as the end of this line. `None` where none is among
+    // them and the line goes on.
+    fn take_piece(&mut self, source: &mut Source) -> Option<LineRead>
+        requires one_line { IsOneLine self.old }
+        requires some { source.old ≢ [] }
+        ensures piece { TakesPiece self.old source.old self.new source.new result }
     {
-        self.store[self.len] = octet;
-        self.len += 1;
+        match place_of_line_feed(source.bytes()) {
+            Some(end) => {
+                let fits = self.extend(&source.bytes()[..end]);
+                source.take_front(end + 1);
+                Some(if fits {
+                    self.end_at_line_feed()
+                } else {
+                    LineRead::Long
+                })
+            }
+            None => {
+                let fits = self.extend(source.bytes());
+                source.clear();
+                if fits { None } else { Some(LineRead::Long) }
+            }
+        }
     }
 
     // The line was ended by a line feed.
@@ -135,16 +161,13 @@ pub fn read_line<F: Files>(
     ensures cause { HasCause (F.seen files.old).faults (F.seen files.new).faults result }
 {
     line.clear();
-    'octets: loop {
-        let Some(octet) = source.next(files)? else {
+    'pieces: loop {
+        source.refill(files)?;
+        if source.is_empty() {
             return Ok(line.end_at_file_end());
-        };
-        if octet == b'\n' {
-            return Ok(line.end_at_line_feed());
         }
-        if line.is_full() {
-            return Ok(LineRead::Long);
+        if let Some(read) = line.take_piece(source) {
+            return Ok(read);
         }
-        line.push(octet);
     }
 }

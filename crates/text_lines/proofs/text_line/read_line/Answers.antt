@@ -1,67 +1,52 @@
-use Rattle.std.proofs.Common.{ℕ, ◌≡◌, ◌<◌, List, [], ◌∷◌, ◌++◌, length, subst, sym, ap, ◌∙◌, append_assoc, length-append, rules, arith}
+use Rattle.std.proofs.Common.{◌++◌, ℕ, List, length, drop, ◌+◌, sym, ap, ◌∙◌, append_assoc, length-append, rules, arith}
 use Rattle.knx_base.specs.Files.{Seen}
-use Rattle.text_lines.specs.Reading.{ahead}
-use Rattle.knx_base.proofs.Causes.{cause_kept}
-use Rattle.text_lines.proofs.Readers.{goes_octet, none_taken, octet_taken}
-use Rattle.text_lines.proofs.LineReads.{IsOneLine, one_more, reads_to_feed, reads_to_end, reads_too_long}
+use Rattle.text_lines.proofs.Readers.{goes_then, takes_less, given_then, none_ahead}
+use Rattle.text_lines.proofs.LineReads.{reads_to_end, reads_piece}
 use Rattle.text_lines.proofs.text_line.read_line.Goals as goal
 
-pub returns-in_default-clause-line : goal.returns-in_default-clause-line
-returns-in_default-clause-line g c =
-    let before = c.octets.invariant in
-    reads_to_end (g.F.Files.seen c.args.files.now) (g.F.Files.seen c.next.new.files) c.args.source.now c.next.new.self
-    c.octets.line c.end_at_file_end.result before.none c.end_at_file_end.ensures.end c.end_at_file_end.ensures.line
-    (none_taken (g.F.Files.seen c.args.files.now) (g.F.Files.seen c.octets.files) (g.F.Files.seen c.next.new.files)
-    c.args.source.now c.octets.source c.next.new.self c.octets.line _ c.in_ok-octet.field-0 c.in_default.is
-    before.goes before.given c.in_ok-octet.ensures.given)
-
-pub returns-then-octet-eq10-clause-line : goal.returns-then-octet-eq10-clause-line
-returns-then-octet-eq10-clause-line g c =
-    let before = c.octets.invariant in
-    reads_to_feed (g.F.Files.seen c.args.files.now) (g.F.Files.seen c.next.new.files) c.args.source.now c.next.new.self
-    c.octets.line c.end_at_line_feed.new.self c.end_at_line_feed.result before.none c.end_at_line_feed.ensures.line
-    c.end_at_line_feed.ensures.read
-    (octet_taken (g.F.Files.seen c.args.files.now) (g.F.Files.seen c.octets.files) (g.F.Files.seen c.next.new.files)
-    c.args.source.now c.octets.source c.next.new.self c.octets.line _ 10 c.in_ok-octet.field-0 (search rules)
-    before.goes before.given c.in_ok-octet.ensures.given)
-
-pub returns-then-is_full-clause-line : goal.returns-then-is_full-clause-line
-returns-then-is_full-clause-line g c =
-    let before = c.octets.invariant in
-    reads_too_long (g.F.Files.seen c.args.files.now) (g.F.Files.seen c.next.new.files) c.args.source.now c.next.new.self
-    c.octets.line c.in-Some.octet before.none (search rules) (search rules)
-    (octet_taken (g.F.Files.seen c.args.files.now) (g.F.Files.seen c.octets.files) (g.F.Files.seen c.next.new.files)
-    c.args.source.now c.octets.source c.next.new.self c.octets.line _ c.in-Some.octet c.in_ok-octet.field-0
-    c.in-Some.is before.goes before.given c.in_ok-octet.ensures.given)
-
-pub octets-preserved : goal.octets-preserved
-octets-preserved g c =
-    let before = c.octets.invariant in
+pub returns-then-is_empty-clause-line : goal.returns-then-is_empty-clause-line
+returns-then-is_empty-clause-line g c =
+    let before = c.pieces.invariant in
     let start : Seen = g.F.Files.seen c.args.files.now in
-    let now : Seen = g.F.Files.seen c.octets.files in
-    let next : Seen = g.F.Files.seen c.next.new.files in
-    let added : c.push.new.self ≡ c.octets.line ++ c.in-Some.octet ∷ [] = c.push.ensures.added in
+    let now : Seen = g.F.Files.seen c.pieces.files in
+    let next : Seen = g.F.Files.seen c.refill.new.files in
+    reads_to_end start next c.args.source.now c.refill.new.self c.pieces.line c.end_at_file_end.result before.none
+    c.end_at_file_end.ensures.end c.end_at_file_end.ensures.line
+    (none_ahead start now next c.args.source.now c.pieces.source c.refill.new.self c.pieces.line (length c.pieces.line)
+    (search rules) before.goes
+    (given_then start now next c.args.source.now c.pieces.source c.refill.new.self c.pieces.line (length c.pieces.line)
+    before.goes before.given c.in_ok-refill.ensures.given) (c.in_ok-refill.ensures.end (search rules)))
+
+pub returns-in-Some-clause-line : goal.returns-in-Some-clause-line
+returns-in-Some-clause-line g c =
+    let before = c.pieces.invariant in
+    let start : Seen = g.F.Files.seen c.args.files.now in
+    let now : Seen = g.F.Files.seen c.pieces.files in
+    let next : Seen = g.F.Files.seen c.refill.new.files in
+    reads_piece start next c.args.source.now c.pieces.line c.refill.new.self c.take_piece.new.self
+    c.take_piece.new.source c.in-Some.read
+    (given_then start now next c.args.source.now c.pieces.source c.refill.new.self c.pieces.line (length c.pieces.line)
+    before.goes before.given c.in_ok-refill.ensures.given) c.in-Some.ensures.piece
+
+pub pieces-preserved : goal.pieces-preserved
+pieces-preserved g c =
+    let before = c.pieces.invariant in
+    let piece = c.in_default.ensures.piece in
+    let start : Seen = g.F.Files.seen c.args.files.now in
+    let now : Seen = g.F.Files.seen c.pieces.files in
+    let next : Seen = g.F.Files.seen c.refill.new.files in
     record {
-      goes = goes_octet start now next c.args.source.now c.octets.source c.next.new.self (length c.octets.line)
-          (length c.push.new.self) c.in-Some.octet c.in_ok-octet.field-0 c.in-Some.is
-          (omega (arith, ap length added, length-append c.octets.line (c.in-Some.octet ∷ []))) before.goes
-          c.in_ok-octet.ensures.goes;
-      room = let fits : length c.octets.line < 1025 = search rules in
-          omega (arith, ap length added, length-append c.octets.line (c.in-Some.octet ∷ []));
-      none = subst IsOneLine (sym added) (one_more c.octets.line c.in-Some.octet before.none (search rules));
+      goes = takes_less start next c.args.source.now c.refill.new.self c.take_piece.new.source
+          (length c.pieces.line + 0) (length c.take_piece.new.self)
+          (omega (arith, ap length piece.0, ap length piece.2, length-append c.pieces.line c.refill.new.self))
+          (goes_then start now next c.args.source.now c.pieces.source c.refill.new.self (length c.pieces.line) 0
+          before.goes c.in_ok-refill.ensures.goes);
+      room = piece.1;
+      none = piece.3;
       given = λ octets has.
-          octet_taken start now next c.args.source.now c.octets.source c.next.new.self c.octets.line _ c.in-Some.octet
-          c.in_ok-octet.field-0 c.in-Some.is before.goes before.given c.in_ok-octet.ensures.given octets has
-          ∙ sym (append_assoc c.octets.line (c.in-Some.octet ∷ []) (ahead next c.next.new.self octets))
-          ∙ ap (λ (line : List ℕ). line ++ ahead next c.next.new.self octets) (sym added);
+          given_then start now next c.args.source.now c.pieces.source c.refill.new.self c.pieces.line
+          (length c.pieces.line) before.goes before.given c.in_ok-refill.ensures.given octets has
+          ∙ sym (append_assoc c.pieces.line c.refill.new.self (drop next.place octets))
+          ∙ ap (λ (all : List ℕ). all ++ drop next.place octets) (sym piece.0)
+          ∙ ap (λ (left : List ℕ). c.take_piece.new.self ++ (left ++ drop next.place octets)) (sym piece.2);
     }
-
-pub returns-in_default-clause-cause : goal.returns-in_default-clause-cause
-returns-in_default-clause-cause g c = cause_kept (c.in_ok-octet.ensures.cause.kept ∙ c.octets.invariant.goes.no_fault)
-
-pub returns-then-octet-eq10-clause-cause : goal.returns-then-octet-eq10-clause-cause
-returns-then-octet-eq10-clause-cause g c =
-    cause_kept (c.in_ok-octet.ensures.cause.kept ∙ c.octets.invariant.goes.no_fault)
-
-pub returns-then-is_full-clause-cause : goal.returns-then-is_full-clause-cause
-returns-then-is_full-clause-cause g c = cause_kept (c.in_ok-octet.ensures.cause.kept ∙ c.octets.invariant.goes.no_fault)
