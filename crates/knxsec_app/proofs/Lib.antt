@@ -1,8 +1,17 @@
 pub mod Answering
+pub mod DocumentReasons
+pub mod Firsts
+pub mod FramesReasons
+pub mod KeyringOnce
+pub mod KeyringReasons
 pub mod Ordered
 pub mod Paging
+pub mod Reasons
 pub mod Refused
+pub mod ScriptReasons
 pub mod SoFar
 pub mod Stopping
+pub mod TablesOnce
+pub mod TablesReasons
 pub mod Telling
 pub mod Told

@@ -54,7 +54,8 @@ abbrev pub rows_told : Result (List Row) TablesFault → Result (List Row) Answe
 rows_told (Ok rows) = Ok rows
 rows_told (Err fault) = Err (refused (codes "tables") (tables_reason fault))
 
--- the merged rows, unless they may not stand together: no two say the same, so there are too many
+-- the merged rows, unless they may not stand together: no two say the same, so there are too many, by the field `many`
+-- of `HaveReasons`
 abbrev pub unless_many : Option BuildFault → List Row → Result (List Row) Answer
 unless_many None rows = Ok rows
 unless_many (Some fault) rows = Err (refused (codes "keyring") (codes " many"))

@@ -6,6 +6,7 @@ pub mod Ends
 pub mod Opening
 pub mod Order
 pub mod Page
+pub mod Reasons
 pub mod Refusing
 pub mod Replaying
 pub mod Status

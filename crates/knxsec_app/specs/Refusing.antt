@@ -30,14 +30,14 @@ refused file reason = record { report = codes "refused " ++ file ++ reason ++ 10
 abbrev pub at_line : ℕ → List ℕ → List ℕ
 at_line number word = codes " line " ++ decimal number ++ 32 ∷ [] ++ word
 
--- No text is refused for want of memory.
+-- No text is refused for want of memory: `HaveReasons` of specs/Reasons says so, here by its field `tables`.
 abbrev pub tables_reason : TablesFault → List ℕ
 tables_reason (tables.Line number cause) = at_line number (cause_word cause)
 tables_reason (tables.Twice number) = at_line number (codes "twice")
 tables_reason (tables.TooMany number) = at_line number (codes "many")
 tables_reason tables.NoMemory = []
 
--- the same of a script
+-- the same of a script, by `script`
 abbrev pub script_reason : ScriptFault → List ℕ
 script_reason (script.Line number cause) = at_line number (cause_word cause)
 script_reason (script.Order number) = at_line number (codes "order")
@@ -48,6 +48,7 @@ script_reason script.NoMemory = []
 abbrev pub at_place : ℕ → List ℕ → List ℕ
 at_place place word = codes " at " ++ decimal place ++ 32 ∷ [] ++ word
 
+-- nor is a document, as `frames` and `keyring` say of those that are read here
 abbrev pub document_reason : TagFault → List ℕ
 document_reason (tag.Bad place) = at_place place (codes "bad")
 document_reason (tag.Utf8 place) = at_place place (codes "utf8")
@@ -62,7 +63,7 @@ abbrev pub field_name : Field → List ℕ
 field_name field.Timestamp = codes "Timestamp"
 field_name field.RawData = codes "RawData"
 
--- No text is refused for a fault of reading or for want of memory.
+-- no text is refused for a fault of reading or for want of memory, by `frames`
 abbrev pub frames_reason : RecordFault → List ℕ
 frames_reason (record_.Line number cause) = at_line number (cause_word cause)
 frames_reason (record_.LongLine number) = at_line number (codes "long")
@@ -80,6 +81,7 @@ abbrev pub stored_text : Option (List ℕ) → List ℕ
 stored_text (Some stored) = encode_lower stored
 stored_text None = codes "-"
 
+-- no keyring is refused for want of memory, by `keyring`
 abbrev pub keyring_reason : KeyringFault → List ℕ
 keyring_reason (keyring.Tag fault) = document_reason fault
 keyring_reason keyring.NotKeyring = codes " root"
@@ -102,8 +104,8 @@ abbrev pub EndsScript : ScriptFault → Status → Option (List ℕ) → Option 
 EndsScript script.NoMemory ended old new = (ended ≡ status.NoMemory) × (new ≡ old)
 EndsScript fault ended old new = Answers (refused (codes "script") (script_reason fault)) ended old new
 
--- What is answered where merged rows have this fault: that there are too many, since no two of them say the same; or
--- that memory was wanting.
+-- What is answered where merged rows have this fault: that there are too many, since no two of them say the same, by
+-- the field `many` of `HaveReasons`; or that memory was wanting.
 abbrev pub EndsMerged : BuildFault → Status → Option (List ℕ) → Option (List ℕ) → Type 0
 EndsMerged build.NoMemory ended old new = (ended ≡ status.NoMemory) × (new ≡ old)
 EndsMerged fault ended old new = Answers (refused (codes "keyring") (codes " many")) ended old new

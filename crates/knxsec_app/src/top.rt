@@ -7,6 +7,7 @@ ghost use Rattle.knxsec_app.specs.Answer.{Answers};
 ghost use Rattle.knxsec_app.specs.Commands.{answer_of, AreFiles, AreThere, LeavesAlone, Plays};
 ghost use Rattle.knxsec_app.specs.Ends.{IsCounted};
 ghost use Rattle.knxsec_app.specs.Order.{UsesFiles};
+ghost use Rattle.knxsec_app.specs.Reasons.{HaveReasons};
 
 use crate::Status;
 use crate::obey::{obey, print_usage};
@@ -45,6 +46,9 @@ pub fn run<F: Files, S: Sink>(
     // The files are opened in the order of the words, each after the one before was read to its end: with Done and
     // Alarm all of them, after a refusal none that stands behind it.
     ensures files { UsesFiles (command_of (map string_bytes words.now)) result (F.seen files.old) (F.seen files.new) }
+
+    // No text is refused for a reason without words, and of merged rows none is said twice: they are too many.
+    ensures reasons { HaveReasons }
 
     // Words of no form alone are answered by the usage line.
     ensures usage { result ≡ Status.Usage → command_of (map string_bytes words.now) ≡ None }

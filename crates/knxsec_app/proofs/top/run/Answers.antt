@@ -1,4 +1,5 @@
 use Rattle.std.proofs.Common.{refl}
+use Rattle.knxsec_app.proofs.Reasons.{have_reasons}
 use Rattle.knxsec_app.proofs.top.run.Goals as goal
 
 pub returns-in-None-clause-answer : goal.returns-in-None-clause-answer
@@ -12,6 +13,9 @@ returns-in-None-clause-files g c = rw (← c.in-None.ensures.asked) (record {
   unopened = λ is_served files are. tt;
 })
 
+pub returns-in-None-clause-reasons : goal.returns-in-None-clause-reasons
+returns-in-None-clause-reasons g c = have_reasons
+
 pub returns-in-Some-clause-files : goal.returns-in-Some-clause-files
 returns-in-Some-clause-files g c = rw (← c.in-Some.ensures.asked) (record {
   told = c.obey.ensures.told;
@@ -19,3 +23,6 @@ returns-in-Some-clause-files g c = rw (← c.in-Some.ensures.asked) (record {
   whole = c.obey.ensures.whole;
   unopened = c.obey.ensures.unopened;
 })
+
+pub returns-in-Some-clause-reasons : goal.returns-in-Some-clause-reasons
+returns-in-Some-clause-reasons g c = have_reasons
