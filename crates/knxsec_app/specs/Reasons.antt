@@ -1,4 +1,4 @@
--- Which refusals an answer may have to tell: no empty reason is ever told, and no row said twice. This is statement.
+-- Which refusals an answer has to tell: none without words, and of merged rows none said twice. This is statement.
 use Rattle.std.specs.Prelude.{◌≡◌, ◌≢◌, ℕ, List, IfSome, Ok, Err}
 use Rattle.tag_text.specs.declared.tag.TagFault.TheVariants as tag
 use Rattle.key_tables.specs.declared.types.Row.{Row}
