@@ -6,3 +6,7 @@ pub mod FixedTexts
 pub mod Written
 pub mod TypeLines
 pub mod OneText
+pub mod SaidTexts
+pub mod OneValue
+pub mod Searching
+pub mod Found

@@ -10,14 +10,14 @@ use Rattle.datapoints.specs.declared.dpt.Dpt.TheVariants.{Switch, Scaling, U8, U
 use Rattle.datapoints.specs.Values.{is_printable, IsNumber, IsFloat, IsTime, IsDay, IsCharacters, IsSwitch, HasOneText}
 use Rattle.datapoints.proofs.CharacterLemmas.{end_is}
 
-one_octet : (a b : ℕ) → a < 256 → b < 256 → to_be_bytes w8 a ≡ to_be_bytes w8 b → a ≡ b
+pub one_octet : (a b : ℕ) → a < 256 → b < 256 → to_be_bytes w8 a ≡ to_be_bytes w8 b → a ≡ b
 one_octet a b small_a small_b same = let low : a % 256 ≡ b % 256 = cc in omega arith
 
-two_octets : (a b : ℕ) → a < 65536 → b < 65536 → to_be_bytes w16 a ≡ to_be_bytes w16 b → a ≡ b
+pub two_octets : (a b : ℕ) → a < 65536 → b < 65536 → to_be_bytes w16 a ≡ to_be_bytes w16 b → a ≡ b
 two_octets a b small_a small_b same =
     let high : a / 256 % 256 ≡ b / 256 % 256 = cc in let low : a % 256 ≡ b % 256 = cc in omega arith
 
-four_octets : (a b : ℕ) → a < 4294967296 → b < 4294967296 → to_be_bytes w32 a ≡ to_be_bytes w32 b → a ≡ b
+pub four_octets : (a b : ℕ) → a < 4294967296 → b < 4294967296 → to_be_bytes w32 a ≡ to_be_bytes w32 b → a ≡ b
 four_octets a b small_a small_b same =
     let first : a / 16777216 % 256 ≡ b / 16777216 % 256 = cc in
     let second : a / 65536 % 256 ≡ b / 65536 % 256 = cc in

@@ -53,7 +53,7 @@ hundredths_of whole part small =
     ap (λ n. decimal n ++ 46 ∷ two_digits ((whole * 100 + part) % 100)) above
     ∙ ap (λ n. decimal whole ++ 46 ∷ two_digits n) below
 
-two_digits_injective : (a b : ℕ) → a < 100 → b < 100 → two_digits a ≡ two_digits b → a ≡ b
+pub two_digits_injective : (a b : ℕ) → a < 100 → b < 100 → two_digits a ≡ two_digits b → a ≡ b
 two_digits_injective a b small_a small_b same =
     let tens : 48 + a / 10 ≡ 48 + b / 10 = cc in
     let ones : 48 + a % 10 ≡ 48 + b % 10 = cc in
@@ -116,7 +116,7 @@ plus_number half n text rest most small only is =
       | inr above ↦ absurd (let no = le-leb half n above in cc)
     ]
 
-plain_text : (half n : ℕ) → n < half → signed_text half n ≡ decimal n
+pub plain_text : (half n : ℕ) → n < half → signed_text half n ≡ decimal n
 plain_text half n below =
     let sign = lt-leb half n below in
     let number : cond (nat_lt n half) n (2 * half - n) ≡ n = grind (arith, nat_tests) in

@@ -1,15 +1,19 @@
 -- Lines of a text of types that are read in turn.
-use Rattle.std.proofs.Common.{◌≡◌, ℕ, ◌+◌, List, [], ◌∷◌, ◌++◌, length, Option, Some, None, Ok, refl, sym, ap, subst, ◌∙◌, arith, append_assoc, append-nil, length-append}
+use Rattle.std.proofs.Common.{◌≡◌, ℕ, ◌+◌, List, [], ◌∷◌, ◌++◌, length, Bool, true, false, Option, Some, None, Result, Ok, Err, inl, inr, ◌<◌, refl, sym, ap, subst, ◌∙◌, arith, append_assoc, append-nil, length-append}
 use Rattle.std.specs.Option.{option_or, option_to_list}
-use Rattle.std.specs.List.{filter_map}
+use Rattle.std.specs.List.{filter_map, list_any, slice_index_or}
 use Rattle.std.specs.Str.Lines.{lines}
+use Rattle.std.proofs.lemmas.Bool.{cases_Bool, true≢false}
 use Rattle.std.proofs.lemmas.List.Elements.{filter_map-append}
+use Rattle.std.proofs.lemmas.List.Folds.{list_any_at}
+use Rattle.std.proofs.lemmas.List.Quantifiers.{all_pairs_push}
 use Rattle.knx_base.specs.declared.address.GroupAddr.{GroupAddr}
+use Rattle.knx_base.specs.declared.cause.Cause.{Cause}
 use Rattle.key_tables.specs.First.{first_of}
 use Rattle.datapoints.specs.declared.dpt.Dpt.{Dpt}
 use Rattle.datapoints.specs.declared.types.TypesFault.{TypesFault}
 use Rattle.datapoints.specs.declared.types.TypesFault.TheVariants.{Line, Twice, TooMany, NoMemory}
-use Rattle.datapoints.specs.Types.{line_says, row_said, rows_of, refusal, line_fault, types_of, unless, IsRefusal, IsTextFault}
+use Rattle.datapoints.specs.Types.{is_of, NoneTwice, row_fault, line_says, row_said, rows_of, refusal, line_fault, types_of, unless, IsRefusal, IsTextFault}
 
 or_assoc : {T : Type 0} (a b c : Option T) → option_or a (option_or b c) ≡ option_or (option_or a b) c
 or_assoc None b c = refl
@@ -36,9 +40,16 @@ pub record HasRead (all done left : List (List ℕ)) (given : ℕ) (rows : List 
   pub given_is : given ≡ length done
   pub rows_are : rows ≡ rows_of done
   pub right : first_of line_fault [] done ≡ None
+  pub once : NoneTwice rows
 
 pub begun : (all : List (List ℕ)) → HasRead all [] all 0 []
-begun all = record { whole = refl; given_is = refl; rows_are = refl; right = refl }
+begun all = record {
+  whole = refl;
+  given_is = refl;
+  rows_are = refl;
+  right = refl;
+  once = λ i j d before within. absurd (omega (arith, within));
+}
 
 -- the fault of the next line, in the words of the call that takes it
 next_fault : (done : List (List ℕ)) (line : List ℕ) (given number : ℕ) (rows : List (GroupAddr × Dpt))
@@ -60,6 +71,30 @@ one_more_line done line =
     filter_map-append (λ l. row_said (line_says l)) done (line ∷ [])
     ∙ ap (λ rows. rows_of done ++ rows) (sym (one_row (row_said (line_says line))))
 
+none_passes : {A : Type 0} (p : A → Bool) (xs : List A) (k : ℕ) (d : A) → k < length xs → list_any p xs ≡ false
+    → p (slice_index_or xs k d) ≡ false
+none_passes p xs k d within none = elim (cases_Bool (p (slice_index_or xs k d))) [
+  | inl passes ↦ absurd (true≢false (sym (list_any_at p xs k d within passes) ∙ none))
+  | inr fails ↦ fails
+]
+
+not_before : (number : ℕ) (rows : List (GroupAddr × Dpt)) (row : GroupAddr × Dpt) → row_fault number rows row ≡ None
+    → list_any (is_of row.0) rows ≡ false
+not_before number rows row right = by (list_any (is_of row.0) rows) refl where
+  by : (again : Bool) → list_any (is_of row.0) rows ≡ again → list_any (is_of row.0) rows ≡ false
+  by true again = absurd (let fault = rw again at right in cc)
+  by false again = again
+
+-- a row that is taken is of a group that has none yet
+once_more : (number : ℕ) (rows : List (GroupAddr × Dpt)) (said : Result (Option (GroupAddr × Dpt)) Cause)
+    → refusal number rows said ≡ None
+    → NoneTwice rows → NoneTwice (rows ++ option_to_list (row_said said))
+once_more number rows (Err why) right once = absurd cc
+once_more number rows (Ok None) right once = subst NoneTwice (sym (append-nil rows)) once
+once_more number rows (Ok (Some row)) right once =
+    all_pairs_push (λ row later. is_of later.0 row ≡ false) rows row once
+    (λ k d within. none_passes (is_of row.0) rows k d within (not_before number rows row right))
+
 pub line_taken : (all done left next : List (List ℕ)) (line : List ℕ) (given number : ℕ)
     (rows now : List (GroupAddr × Dpt))
     → HasRead all done next given rows → next ≡ line ∷ left → number ≡ given + 1
@@ -74,6 +109,7 @@ line_taken all done left next line given number rows now read is number_is taken
       first_after line_fault [] done (line ∷ []) read.right
       ∙ ap (λ fault. option_or fault None)
       (sym (next_fault done line given number rows read.given_is read.rows_are number_is) ∙ right);
+  once = subst NoneTwice (sym taken) (once_more number rows (line_says line) right read.once);
 }
 
 refused_text : (fault : TypesFault) (found : Option TypesFault) (rows : List (GroupAddr × Dpt)) → IsRefusal fault found

@@ -1,12 +1,14 @@
 -- Application PDUs of group services that carry a value: the low six bits of the second octet, where the type is of
 -- bits, or the octets after the first two.
-use Rattle.std.specs.Prelude.{◌≡◌, ◌≢◌, ℕ, ◌+◌, ◌%◌, List, [], ◌∷◌, length, drop, slice_index}
+use Rattle.std.specs.Prelude.{◌≡◌, ◌≢◌, ℕ, ◌+◌, ◌%◌, List, [], ◌∷◌, length, drop, slice_index, Option}
+use Rattle.std.specs.Option.{option_map}
 use Rattle.plain_apdu.specs.Apdu.{apdu_of}
 use Rattle.datapoints.specs.declared.dpt.Dpt.{Dpt}
 use Rattle.datapoints.specs.declared.dpt.Dpt.TheVariants.{Switch, Scaling, U8, U16, U32, I8, I16, I32, Hundredths, Time, Date, Text14}
 use Rattle.datapoints.specs.declared.decoding.BadValue.{BadValue}
 use Rattle.datapoints.specs.declared.decoding.BadValue.TheVariants.{Size, Range}
 use Rattle.datapoints.specs.Values.{HasValue, HasNoText, IsLeastForm}
+use Rattle.datapoints.specs.Texts.{octets_with}
 
 -- how many octets an APDU with such a value has
 abbrev pub apdu_size : Dpt → ℕ
@@ -52,3 +54,7 @@ pub record IsWritten (dpt : Dpt) (text : List ℕ) (bits : ℕ) (apdu : List ℕ
   pub octets : List ℕ
   pub encoded : IsEncoded dpt text octets
   pub apdu_is : apdu ≡ apdu_with dpt bits octets
+
+-- the APDU of a service that carries the value of a text, if there is one
+unfoldable pub apdu_for : Dpt → List ℕ → ℕ → Option (List ℕ)
+apdu_for dpt text bits = option_map (apdu_with dpt bits) (octets_with dpt text)

@@ -1,7 +1,7 @@
 -- What a text of types says: each line the type of one group.
-use Rattle.std.specs.Prelude.{◌≡◌, ℕ, ◌+◌, ◌==◌, nat_le, if◌then◌else◌, Bool, List, [], ◌∷◌, length, codes, find, Option, Some, None, Result, Ok, Err}
+use Rattle.std.specs.Prelude.{◌≡◌, ℕ, ◌+◌, ◌==◌, nat_le, if◌then◌else◌, Bool, false, List, [], ◌∷◌, length, codes, find, Option, Some, None, Result, Ok, Err}
 use Rattle.std.specs.Option.{option_map, ok_or}
-use Rattle.std.specs.List.{filter_map, list_any}
+use Rattle.std.specs.List.{filter_map, list_any, AllPairs}
 use Rattle.std.specs.Str.Lines.{lines}
 use Rattle.knx_base.specs.declared.address.GroupAddr.{GroupAddr}
 use Rattle.knx_base.specs.declared.cause.Cause.{Cause}
@@ -22,6 +22,10 @@ is_of group row = row.0.0 == group.0
 -- the type of the row of this group
 abbrev pub dpt_of : List (GroupAddr × Dpt) → GroupAddr → Option Dpt
 dpt_of rows group = option_map (λ row. row.1) (find (is_of group) rows)
+
+-- no group has two rows
+abbrev pub NoneTwice : List (GroupAddr × Dpt) → Type 0
+NoneTwice rows = AllPairs (λ row later. is_of later.0 row ≡ false) rows
 
 abbrev pub most_rows : ℕ
 most_rows = 4096

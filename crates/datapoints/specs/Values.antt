@@ -51,7 +51,12 @@ pub record IsNumber (w : Width) (text_of : ℕ → List ℕ) (octets text : List
   pub octets_are : octets ≡ to_be_bytes w number
   pub spelled : text ≡ text_of number
 
--- `d hh:mm:ss`: the day in the upper three bits of the first octet, the hour in the lower five; minute; second
+-- `d hh:mm:ss`
+abbrev pub clock_text : ℕ → ℕ → ℕ → ℕ → List ℕ
+clock_text day hour minute second =
+    (48 + day) ∷ 32 ∷ (two_digits hour ++ 58 ∷ (two_digits minute ++ 58 ∷ two_digits second))
+
+-- the day in the upper three bits of the first octet, the hour in the lower five; minute; second
 pub record IsTime (octets text : List ℕ) : Type 0 where
   pub day : ℕ
   pub hour : ℕ
@@ -62,13 +67,18 @@ pub record IsTime (octets text : List ℕ) : Type 0 where
   pub minute_bound : minute ≤ 59
   pub second_bound : second ≤ 59
   pub octets_are : octets ≡ (32 * day + hour) ∷ minute ∷ second ∷ []
-  pub spelled : text ≡ (48 + day) ∷ 32 ∷ (two_digits hour ++ 58 ∷ (two_digits minute ++ 58 ∷ two_digits second))
+  pub spelled : text ≡ clock_text day hour minute second
 
 -- of two digits of a year those from 90 on are of the twentieth century
 abbrev pub century_of : ℕ → ℕ
 century_of year = if nat_le 90 year then 19 else 20
 
--- `YYYY-MM-DD`: day, month, and the year in its century; a date of the Gregorian calendar
+-- `YYYY-MM-DD`
+abbrev pub day_text : ℕ → ℕ → ℕ → List ℕ
+day_text year month day =
+    two_digits (century_of year) ++ (two_digits year ++ 45 ∷ (two_digits month ++ 45 ∷ two_digits day))
+
+-- day, month, and the year in its century; a date of the Gregorian calendar
 pub record IsDay (octets text : List ℕ) : Type 0 where
   pub year : ℕ
   pub month : ℕ
@@ -76,20 +86,27 @@ pub record IsDay (octets text : List ℕ) : Type 0 where
   pub year_bound : year ≤ 99
   pub date : IsDate (pos (century_of year * 100 + year)) (pos month) (pos day)
   pub octets_are : octets ≡ day ∷ month ∷ year ∷ []
-  pub spelled : text
-      ≡ two_digits (century_of year) ++ (two_digits year ++ 45 ∷ (two_digits month ++ 45 ∷ two_digits day))
+  pub spelled : text ≡ day_text year month day
 
 -- an octet of printable ASCII
 abbrev pub is_printable : ℕ → Bool
 is_printable octet = nat_le 32 octet && nat_le octet 126
+
+-- characters, and zeros up to fourteen octets
+abbrev pub filled : List ℕ → List ℕ
+filled characters = characters ++ replicate (14 - length characters) 0
+
+-- in double quotes
+abbrev pub quoted : List ℕ → List ℕ
+quoted characters = 34 ∷ (characters ++ 34 ∷ [])
 
 -- up to fourteen characters in double quotes: the octets are the characters, and then zeros
 pub record IsCharacters (octets text : List ℕ) : Type 0 where
   pub characters : List ℕ
   pub few : length characters ≤ 14
   pub printable : list_all is_printable characters ≡ true
-  pub octets_are : octets ≡ characters ++ replicate (14 - length characters) 0
-  pub spelled : text ≡ 34 ∷ (characters ++ 34 ∷ [])
+  pub octets_are : octets ≡ filled characters
+  pub spelled : text ≡ quoted characters
 
 -- 0 is `off` and 1 is `on`
 pub record IsSwitch (octets text : List ℕ) : Type 0 where

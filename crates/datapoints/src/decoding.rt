@@ -1,6 +1,8 @@
-ghost use Rattle.std.specs.Prelude.{◌≡◌, ◌≤◌, [], length, drop, MatchBool, OnOk, OnErr, IfErr};
+ghost use Rattle.std.specs.Prelude.{◌≡◌, ◌≤◌, [], length, drop, MatchBool, MatchResult, Some, None, OnOk, OnErr, IfErr};
 ghost use Rattle.datapoints.specs.Values.{HasValue, HasNoText, HasOneText};
+ghost use Rattle.datapoints.specs.Texts.{SaysText};
 ghost use Rattle.datapoints.specs.Apdus.{apdu_size, value_in, Carries, IsBadValue};
+ghost use Rattle.datapoints.specs.Shown.{text_in};
 
 use crate::calendar::write_date;
 use crate::characters::write_characters;
@@ -26,6 +28,9 @@ pub fn decode(dpt: Dpt, apdu: &[u8], out: &mut ValueText) -> Result<(), BadValue
     ensures fault { IfErr result (IsBadValue dpt apdu.now) }
     ensures empty { OnErr result (out.new ≡ []) }
     ensures one_text { HasOneText dpt (value_in dpt apdu.now) }
+    ensures exact { MatchResult result (λ _. text_in dpt apdu.now ≡ Some out.new)
+        (λ _. text_in dpt apdu.now ≡ None) }
+    ensures law { length apdu.now ≡ apdu_size dpt → SaysText dpt (value_in dpt apdu.now) }
 {
     out.clear();
     let found = apdu.len() as u8;

@@ -1,4 +1,4 @@
-ghost use Rattle.std.specs.Prelude.{◌≡◌};
+ghost use Rattle.std.specs.Prelude.{◌≡◌, ◌≤◌};
 ghost use Rattle.datapoints.specs.Names.{type_named, IsTypeNamed};
 ghost use Rattle.datapoints.specs.Apdus.{apdu_size};
 
@@ -57,7 +57,9 @@ impl Dpt {
 
     // How many octets an APDU with such a value has.
     pub(crate) fn apdu_size(self) -> u8
-        ensures { result ≡ apdu_size self }
+        ensures size { result ≡ apdu_size self }
+        ensures least { 2 ≤ result }
+        ensures most { result ≤ 16 }
     {
         match self {
             Dpt::Switch => 2,

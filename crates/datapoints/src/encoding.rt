@@ -1,6 +1,7 @@
 ghost use Rattle.std.specs.Prelude.{◌≡◌, ◌⊎◌, ℕ, ◌≤◌, List, length, take, drop, MatchOption, IfSome, IfNone, IsSome};
 ghost use Rattle.datapoints.specs.Values.{HasValue, IsTextOfNone};
-ghost use Rattle.datapoints.specs.Apdus.{apdu_with, Carries, IsEncoded, IsWritten};
+ghost use Rattle.std.specs.Option.{option_map};
+ghost use Rattle.datapoints.specs.Apdus.{apdu_for, apdu_with, Carries, IsEncoded, IsWritten};
 
 use crate::calendar::octets_of_date;
 use crate::characters::octets_of_characters;
@@ -21,8 +22,11 @@ pub fn encode(dpt: Dpt, text: &str, bits: u16, out: &mut [u8; 16]) -> Option<usi
     ensures reads_back { IfSome result (λ count. Carries dpt (take count out.new) text.now) }
     ensures found { (octets : List ℕ) → HasValue dpt octets text.now → IsSome result }
     ensures unchanged { IfNone result (out.new ≡ out.old) }
+    ensures exact { option_map (λ count. take count out.new) result ≡ apdu_for dpt text.now bits }
 {
-    let octets = octets_of(dpt, text)?;
+    let Some(octets) = octets_of(dpt, text) else {
+        return None;
+    };
     Some(write_octets(dpt, octets.bytes(), bits, out))
 }
 

@@ -10,6 +10,7 @@ mod dpt;
 mod encoding;
 mod number_texts;
 mod numbers;
+mod shown;
 mod switch;
 #[cfg(test)]
 mod tests;
@@ -20,6 +21,7 @@ mod value_text;
 pub use decoding::{BadValue, decode};
 pub use dpt::Dpt;
 pub use encoding::encode;
+pub use shown::ShownValue;
 pub use types::{Types, TypesFault, read_types};
 use value_octets::ValueOctets;
 pub use value_text::ValueText;

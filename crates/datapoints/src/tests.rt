@@ -1,4 +1,4 @@
-use crate::{BadValue, Dpt, TypesFault, ValueText, decode, encode, read_types};
+use crate::{BadValue, Dpt, ShownValue, TypesFault, ValueText, decode, encode, read_types};
 use knx_base::{Cause, GroupAddr};
 use std::process::Abort;
 use std::test::Fail;
@@ -89,6 +89,19 @@ fn octets_of_no_value_are_refused(rt: HostRuntime) {
             assert_eq!(rt; text.bytes(), b"".as_slice());
         }
     }
+}
+
+#[test]
+fn a_line_shows_the_value_or_that_there_is_none(rt: HostRuntime) {
+    for (dpt, shown) in [
+        (Dpt::Switch, b" = on".as_slice()),
+        (Dpt::U8, b" = bad-value".as_slice()),
+    ] {
+        assert_eq!(rt; ShownValue::of(dpt, b"\x00\x81").bytes(), shown);
+    }
+    let longest = ShownValue::of(Dpt::Text14, b"\x00\x80fourteen chars");
+    assert_eq!(rt; longest.bytes(), b" = \"fourteen chars\"".as_slice());
+    assert_eq!(rt; ShownValue::nothing().bytes(), b"".as_slice());
 }
 
 #[test]

@@ -2,7 +2,7 @@ ghost use Rattle.std.specs.Prelude.{◌≡◌, ◌∷◌, [], ◌++◌, None, Ok
 ghost use Rattle.std.specs.Option.{option_to_list};
 ghost use Rattle.std.specs.List.{list_any};
 ghost use Rattle.datapoints.specs.declared.types.TypesFault.TheVariants.{NoMemory};
-ghost use Rattle.datapoints.specs.Types.{is_of, dpt_named, type_row, row_of, line_says, row_said, row_fault, refusal, types_of, IsRefusal, IsTextFault};
+ghost use Rattle.datapoints.specs.Types.{is_of, dpt_named, type_row, row_of, line_says, row_said, row_fault, refusal, types_of, IsRefusal, IsTextFault, NoneTwice};
 
 use crate::Dpt;
 use key_tables::{read_group, two_words};
@@ -104,6 +104,7 @@ impl Types {
 pub fn read_types(alloc: Global, bytes: &[u8]) -> Result<Types, TypesFault>
     ensures rows { IfOk result (λ types. types_of bytes.now ≡ Ok types) }
     ensures fault { IfErr result (λ fault. IsTextFault fault (types_of bytes.now)) }
+    ensures once { IfOk result (λ types. NoneTwice types) }
 {
     let mut types = Types {
         rows: Vec::new(alloc),

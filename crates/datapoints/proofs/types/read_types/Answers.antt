@@ -24,3 +24,6 @@ returns-in_err-take_line-clause-fault c =
 
 pub returns-clause-rows : goal.returns-clause-rows
 returns-clause-rows c = text_read _ _ _ _ _ c.lines.invariant.1 c.in_default.ensures.line
+
+pub returns-clause-once : goal.returns-clause-once
+returns-clause-once c = c.lines.invariant.1.once
