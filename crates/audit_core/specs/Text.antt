@@ -34,9 +34,14 @@ abbrev pub head_text : Line → Option ℤ → List ℕ
 head_text line time =
     decimal line.index ++ time_text time ++ 32 ∷ [] ++ place_text line.addresses line.repeated ++ 32 ∷ []
 
--- the line of a record, with its time and the APDU that was opened
+-- the line of a record, with its time, the APDU that was opened, and what stands behind that
+abbrev pub line_text_with : Line → Option ℤ → List ℕ → List ℕ → List ℕ
+line_text_with line time apdu behind =
+    head_text line time ++ verdict_text line.verdict apdu ++ behind ++ end_text line.alarm
+
+-- the line with nothing behind it
 abbrev pub line_text : Line → Option ℤ → List ℕ → List ℕ
-line_text line time apdu = head_text line time ++ verdict_text line.verdict apdu ++ end_text line.alarm
+line_text line time apdu = line_text_with line time apdu []
 
 abbrev pub total_text : Total → List ℕ
 total_text total =

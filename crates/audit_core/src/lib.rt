@@ -15,4 +15,4 @@ mod tests;
 pub use audit::Audit;
 pub use exchange_law::exchange_is_judged;
 pub use line::{Addresses, Line};
-pub use print::print_line;
+pub use print::{print_line, print_line_with};

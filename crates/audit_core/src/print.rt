@@ -4,7 +4,7 @@ ghost use Rattle.knx_base.specs.Faults.{HasCause};
 ghost use Rattle.knx_base.specs.Sink.{Prints};
 ghost use Rattle.knx_base.specs.Address.{individual_text};
 ghost use Rattle.judge_rules.specs.Text.{verdict_text};
-ghost use Rattle.audit_core.specs.Text.{time_text, address_text, repeat_text, place_text, end_text, head_text, line_text};
+ghost use Rattle.audit_core.specs.Text.{time_text, address_text, repeat_text, place_text, end_text, head_text, line_text, line_text_with};
 
 use crate::{Addresses, Line};
 use judge_rules::put_verdict;
@@ -22,17 +22,35 @@ pub fn print_line<S: Sink>(
     ensures text { Prints (S.octets out.old) (S.octets out.new) result (line_text line.now time apdu.now) }
     ensures cause { HasCause (S.faults out.old) (S.faults out.new) result }
 {
+    print_line_with(line, time, apdu, &[], out)
+}
+
+/// The same with up to 32 octets behind the verdict and its APDU.
+pub fn print_line_with<S: Sink>(
+    line: &Line,
+    time: Option<i64>,
+    apdu: &ApduBuf,
+    behind: &[u8],
+    out: &mut S,
+) -> Result<(), Failed>
+    requires short { length behind.now ≤ 32 }
+    ensures text { Prints (S.octets out.old) (S.octets out.new) result
+        (line_text_with line.now time apdu.now behind.now) }
+    ensures cause { HasCause (S.faults out.old) (S.faults out.new) result }
+{
     let mut text = LineBuf::new();
-    put_line(line, time, apdu, &mut text);
+    put_line(line, time, apdu, behind, &mut text);
     print_text(text.bytes(), out)
 }
 
-fn put_line(line: &Line, time: Option<i64>, apdu: &ApduBuf, text: &mut LineBuf)
+fn put_line(line: &Line, time: Option<i64>, apdu: &ApduBuf, behind: &[u8], text: &mut LineBuf)
     requires empty { text.old ≡ [] }
-    ensures { text.new ≡ line_text line.now time apdu.now }
+    requires short { length behind.now ≤ 32 }
+    ensures { text.new ≡ line_text_with line.now time apdu.now behind.now }
 {
     put_head(line, time, text);
     put_verdict(&line.verdict, apdu.bytes(), text);
+    text.octets(behind);
     text.text(if line.alarm { " !\n" } else { "\n" });
 }
 

@@ -21,4 +21,4 @@ mod FirstLemmas
 mod NoTagLemmas
 mod OrderLemmas
 mod SameLemmas
-mod OnceLemmas
+pub mod OnceLemmas

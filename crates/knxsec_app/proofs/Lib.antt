@@ -15,3 +15,4 @@ pub mod TablesOnce
 pub mod TablesReasons
 pub mod Telling
 pub mod Told
+pub mod TypesReasons

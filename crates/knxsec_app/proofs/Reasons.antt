@@ -10,6 +10,7 @@ use Rattle.knxsec_app.proofs.Firsts.{first_is}
 use Rattle.knxsec_app.proofs.TablesReasons.{IsOfRow, row_fault_is}
 use Rattle.knxsec_app.proofs.TablesReasons as tables
 use Rattle.knxsec_app.proofs.TablesOnce.{tables_once}
+use Rattle.knxsec_app.proofs.TypesReasons as types
 use Rattle.knxsec_app.proofs.ScriptReasons as script
 use Rattle.knxsec_app.proofs.FramesReasons as frames
 use Rattle.knxsec_app.proofs.KeyringReasons as keyring
@@ -35,6 +36,7 @@ merged_many over under once_over once_under =
 pub have_reasons : HaveReasons
 have_reasons = record {
   tables = tables.no_memory;
+  types = types.no_memory;
   script = script.no_memory;
   frames = frames.of_text;
   keyring = λ octets password. record {

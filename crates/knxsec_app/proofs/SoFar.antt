@@ -25,24 +25,26 @@ use Rattle.tag_text.specs.declared.tag.TagFault.TheVariants as tag
 use Rattle.audit_core.specs.declared.line.Line.{Line}
 use Rattle.audit_core.specs.Audit.{apdu_of, line_of, total_of}
 use Rattle.audit_core.specs.State.{AuditState, Knows}
-use Rattle.audit_core.specs.Text.{line_text, total_text}
+use Rattle.audit_core.specs.Text.{line_text_with, total_text}
 use Rattle.knxsec_app.specs.declared.status.Status.{Status}
 use Rattle.knxsec_app.specs.declared.status.Status.TheVariants.{Done, Alarm, Usage, Refused, ReadFault, WriteFault, NoMemory}
 use Rattle.knxsec_app.specs.Answer.{Answer, Answers, after}
 use Rattle.knxsec_app.specs.Auditing.{record_line, frames_answer, total_status}
 use Rattle.knxsec_app.specs.Ends.{ReadsToEnd}
 use Rattle.knxsec_app.specs.Refusing.{refused, frames_reason, EndsList}
+use Rattle.knxsec_app.specs.Showing.{Behind}
 use Rattle.knxsec_app.proofs.Answering.{answers_after, prefix_more}
 
-pub record SoFar (start now : Seen) (rows : List Row) (audit : AuditState) (records : ReaderState) (held : List ℕ)
+pub record SoFar (shown : Behind) (start now : Seen) (rows : List Row) (audit : AuditState) (records : ReaderState)
+    (held : List ℕ)
     (old new : Option (List ℕ)) : Type 0 where
   pub past : List (List ℕ)
   pub knows : Knows audit past
   pub rows_are : audit.rows ≡ rows
   pub front : List ℕ
   pub printed : new ≡ append_known old front
-  pub left_is : WhereTold start (λ octets. frames_answer rows [] (records_of octets)
-      ≡ after (front ++ held) (frames_answer rows past (left now records octets)))
+  pub left_is : WhereTold start (λ octets. frames_answer shown rows [] (records_of octets)
+      ≡ after (front ++ held) (frames_answer shown rows past (left now records octets)))
 
 after_nil : (answer : Answer) → after [] answer ≡ answer
 after_nil answer = refl
@@ -52,27 +54,28 @@ abbrev none_read : ReaderState
 none_read = record { stage = stage_.Start; lines = 0; given = 0; held = []; record_ = untimed [] }
 
 -- nothing was read
-pub begins : (start : Seen) (rows : List Row) (audit : AuditState) (records : ReaderState) (held : List ℕ)
+pub begins : (shown : Behind) (start : Seen) (rows : List Row) (audit : AuditState) (records : ReaderState)
+    (held : List ℕ)
     (out : Option (List ℕ))
     → start.place ≡ 0 → Knows audit [] → audit.rows ≡ rows → records ≡ none_read → held ≡ []
-    → SoFar start start rows audit records held out out
-begins start rows audit records held out at_start knows rows_are none empty = record {
+    → SoFar shown start start rows audit records held out out
+begins shown start rows audit records held out at_start knows rows_are none empty = record {
   past = [];
   knows = knows;
   rows_are = rows_are;
   front = [];
   printed = sym (append_known-nil out);
   left_is = λ octets has.
-      ap (λ place. frames_answer rows [] (left (record start { place = place }) none_read octets)) (sym at_start)
-      ∙ (λ i. after (sym empty i) (frames_answer rows [] (left start (sym none i) octets)));
+      ap (λ place. frames_answer shown rows [] (left (record start { place = place }) none_read octets)) (sym at_start)
+      ∙ (λ i. after (sym empty i) (frames_answer shown rows [] (left start (sym none i) octets)));
 }
 
 -- the answer to a list with one record more
-one_more : (rows : List Row) (past : List (List ℕ)) (entry : Entry) (list : RecordList)
-    → frames_answer rows past (with_record entry list) ≡ after (record_line rows past entry)
-    (frames_answer rows (entry.octets ∷ past) list)
+one_more : (shown : Behind) (rows : List Row) (past : List (List ℕ)) (entry : Entry) (list : RecordList)
+    → frames_answer shown rows past (with_record entry list) ≡ after (record_line shown rows past entry)
+    (frames_answer shown rows (entry.octets ∷ past) list)
 unfolding frames_answer
-one_more rows past entry list = refl
+one_more shown rows past entry list = refl
 
 -- a text that waited, and one after it, of which a front was handed on
 regrouped : (front held line handed kept : List ℕ) → handed ++ kept ≡ held ++ line → (answer : Answer)
@@ -83,24 +86,29 @@ regrouped front held line handed kept same answer = ap (λ text. record { report
     ∙ sym (append_assoc front handed kept)))
 
 -- one more record was taken, and its line passed on
-pub goes_on : (start now later : Seen) (rows : List Row) (audit next : AuditState) (records following : ReaderState)
-    (held kept : List ℕ)
-    (old mid new : Option (List ℕ)) (entry : Entry) (apdu : List ℕ) (line : Line)
-    → SoFar start now rows audit records held old mid
+pub goes_on : (shown : Behind) (start now later : Seen) (rows : List Row) (audit next : AuditState)
+    (records following : ReaderState) (held kept : List ℕ)
+    (old mid new : Option (List ℕ)) (entry : Entry) (apdu : List ℕ) (line : Line) (behind : List ℕ)
+    → behind ≡ shown line apdu
+    → SoFar shown start now rows audit records held old mid
     → GoesOn start now [] records.held 0
     → WhereTold now (λ all. left now records all ≡ with_record entry (left later following all))
     → ((past : List (List ℕ)) → Knows audit past → (line ≡ line_of audit.rows past entry.octets)
     × Knows next (entry.octets ∷ past))
     → next.rows ≡ audit.rows
     → ((past : List (List ℕ)) → Knows audit past → apdu ≡ apdu_of audit.rows past entry.octets)
-    → (handed : List ℕ) × (new ≡ append_known mid handed) × (handed ++ kept ≡ held ++ line_text line entry.time apdu)
-    → SoFar start later rows next following kept old new
-goes_on start now later rows audit next records following held kept old mid new entry apdu line so_far goes taken
+    → (handed : List ℕ) × (new ≡ append_known mid handed) × (handed ++ kept ≡ held ++ line_text_with line entry.time
+        apdu behind)
+    → SoFar shown start later rows next following kept old new
+goes_on shown start now later rows audit next records following held kept old mid new entry apdu line behind is so_far
+    goes taken
     knows rows_stay opened passed =
     let told = knows so_far.past so_far.knows in
-    let is_line : line_text line entry.time apdu ≡ record_line rows so_far.past entry =
-    (λ i. line_text (told.0 i) entry.time (opened so_far.past so_far.knows i))
-    ∙ ap (λ rows. record_line rows so_far.past entry) so_far.rows_are in
+    let is_line : line_text_with line entry.time apdu behind ≡ record_line shown rows so_far.past entry =
+    ap (line_text_with line entry.time apdu) is
+    ∙ (λ i. line_text_with (told.0 i) entry.time (opened so_far.past so_far.knows i)
+    (shown (told.0 i) (opened so_far.past so_far.knows i)))
+    ∙ ap (λ rows. record_line shown rows so_far.past entry) so_far.rows_are in
     record {
       past = entry.octets ∷ so_far.past;
       knows = told.1;
@@ -110,134 +118,147 @@ goes_on start now later rows audit next records following held kept old mid new 
           ∙ append_known-append old so_far.front passed.0;
       left_is = λ all has.
           so_far.left_is all has
-          ∙ ap (λ list. after (so_far.front ++ held) (frames_answer rows so_far.past list))
+          ∙ ap (λ list. after (so_far.front ++ held) (frames_answer shown rows so_far.past list))
           (taken all (has_same start now [] records.held 0 goes all has))
-          ∙ ap (after (so_far.front ++ held)) (one_more rows so_far.past entry (left later following all))
-          ∙ regrouped so_far.front held (record_line rows so_far.past entry) passed.0 kept
-          (passed.2 ∙ ap (λ text. held ++ text) is_line) (frames_answer rows (entry.octets ∷ so_far.past)
+          ∙ ap (after (so_far.front ++ held)) (one_more shown rows so_far.past entry (left later following all))
+          ∙ regrouped so_far.front held (record_line shown rows so_far.past entry) passed.0 kept
+          (passed.2 ∙ ap (λ text. held ++ text) is_line) (frames_answer shown rows (entry.octets ∷ so_far.past)
           (left later following all));
     }
 
 -- ---- the ends
 
 -- what was written on, of what waits and the answer to what is left, is of the whole answer
-pub answers_all : (start now : Seen) (rows : List Row) (audit : AuditState) (records : ReaderState) (held : List ℕ)
+pub answers_all : (shown : Behind) (start now : Seen) (rows : List Row) (audit : AuditState) (records : ReaderState)
+    (held : List ℕ)
     (old mid new : Option (List ℕ)) (status : Status)
-    → (so_far : SoFar start now rows audit records held old mid) → (octets : List ℕ) → CurrentHas start octets
-    → Answers (after held (frames_answer rows so_far.past (left now records octets))) status mid new
-    → Answers (frames_answer rows [] (records_of octets)) status old new
-answers_all start now rows audit records held old mid new status so_far octets has said =
-    let answer = frames_answer rows so_far.past (left now records octets) in
-    let whole : after so_far.front (after held answer) ≡ frames_answer rows [] (records_of octets)
+    → (so_far : SoFar shown start now rows audit records held old mid) → (octets : List ℕ) → CurrentHas start octets
+    → Answers (after held (frames_answer shown rows so_far.past (left now records octets))) status mid new
+    → Answers (frames_answer shown rows [] (records_of octets)) status old new
+answers_all shown start now rows audit records held old mid new status so_far octets has said =
+    let answer = frames_answer shown rows so_far.past (left now records octets) in
+    let whole : after so_far.front (after held answer) ≡ frames_answer shown rows [] (records_of octets)
     = ap (λ text. record { report = text; status = answer.status }) (sym (append_assoc so_far.front held answer.report))
     ∙ sym (so_far.left_is octets has) in
     subst (λ a. Answers a status old new) whole (answers_after old mid new so_far.front (after held answer) status
     so_far.printed said)
 
 -- the report could not go on
-pub stops : (start now : Seen) (rows : List Row) (audit : AuditState) (records : ReaderState) (held : List ℕ)
+pub stops : (shown : Behind) (start now : Seen) (rows : List Row) (audit : AuditState) (records : ReaderState)
+    (held : List ℕ)
     (old mid new : Option (List ℕ))
-    → SoFar start now rows audit records held old mid → AppendsPrefix mid new held
-    → WhereTold start (λ octets. AppendsPrefix old new (frames_answer rows [] (records_of octets)).report)
-stops start now rows audit records held old mid new so_far begun octets has =
-    answers_all start now rows audit records held old mid new WriteFault so_far octets has
-    (prefix_more mid new held (frames_answer rows so_far.past (left now records octets)).report begun)
+    → SoFar shown start now rows audit records held old mid → AppendsPrefix mid new held
+    → WhereTold start (λ octets. AppendsPrefix old new (frames_answer shown rows [] (records_of octets)).report)
+stops shown start now rows audit records held old mid new so_far begun octets has =
+    answers_all shown start now rows audit records held old mid new WriteFault so_far octets has
+    (prefix_more mid new held (frames_answer shown rows so_far.past (left now records octets)).report begun)
 
 -- memory was wanting, and what waited was handed on, unless the sink failed
-pub wants_memory : (start now : Seen) (rows : List Row) (audit : AuditState) (records : ReaderState) (held : List ℕ)
+pub wants_memory : (shown : Behind) (start now : Seen) (rows : List Row) (audit : AuditState) (records : ReaderState)
+    (held : List ℕ)
     (old mid new : Option (List ℕ)) (status : Status)
-    → SoFar start now rows audit records held old mid → Answers (record { report = held; status = NoMemory }) status mid
-    new
-    → WhereTold start (λ octets. Answers (frames_answer rows [] (records_of octets)) status old new)
-wants_memory start now rows audit records held old mid new status so_far said octets has = by_status status said where
-  begun : AppendsPrefix mid new held → AppendsPrefix old new (frames_answer rows [] (records_of octets)).report
-  begun part = stops start now rows audit records held old mid new so_far part octets has
+    → SoFar shown start now rows audit records held old mid
+    → Answers (record { report = held; status = NoMemory }) status mid new
+    → WhereTold start (λ octets. Answers (frames_answer shown rows [] (records_of octets)) status old new)
+wants_memory shown start now rows audit records held old mid new status so_far said octets has =
+    by_status status said where
+      begun : AppendsPrefix mid new held
+          → AppendsPrefix old new (frames_answer shown rows [] (records_of octets)).report
+      begun part = stops shown start now rows audit records held old mid new so_far part octets has
 
-  by_status : (status : Status) → Answers (record { report = held; status = NoMemory }) status mid new
-      → Answers (frames_answer rows [] (records_of octets)) status old new
-  by_status Done said = absurd cc
-  by_status Alarm said = absurd cc
-  by_status Usage said = absurd cc
-  by_status Refused said = absurd cc
-  by_status ReadFault said = begun said
-  by_status WriteFault said = begun said
-  by_status NoMemory said = begun said
+      by_status : (status : Status) → Answers (record { report = held; status = NoMemory }) status mid new
+          → Answers (frames_answer shown rows [] (records_of octets)) status old new
+      by_status Done said = absurd cc
+      by_status Alarm said = absurd cc
+      by_status Usage said = absurd cc
+      by_status Refused said = absurd cc
+      by_status ReadFault said = begun said
+      by_status WriteFault said = begun said
+      by_status NoMemory said = begun said
 
 -- the sink failed at the line of one more record
-pub stops_at_line : (start now later : Seen) (rows : List Row) (audit next : AuditState)
+pub stops_at_line : (shown : Behind) (start now later : Seen) (rows : List Row) (audit next : AuditState)
     (records following : ReaderState) (held : List ℕ)
-    (old mid new : Option (List ℕ)) (entry : Entry) (apdu : List ℕ) (line : Line)
-    → SoFar start now rows audit records held old mid
+    (old mid new : Option (List ℕ)) (entry : Entry) (apdu : List ℕ) (line : Line) (behind : List ℕ)
+    → behind ≡ shown line apdu
+    → SoFar shown start now rows audit records held old mid
     → GoesOn start now [] records.held 0
     → WhereTold now (λ all. left now records all ≡ with_record entry (left later following all))
     → ((past : List (List ℕ)) → Knows audit past → (line ≡ line_of audit.rows past entry.octets)
     × Knows next (entry.octets ∷ past))
     → ((past : List (List ℕ)) → Knows audit past → apdu ≡ apdu_of audit.rows past entry.octets)
-    → AppendsPrefix mid new (held ++ line_text line entry.time apdu)
-    → WhereTold start (λ all. AppendsPrefix old new (frames_answer rows [] (records_of all)).report)
-stops_at_line start now later rows audit next records following held old mid new entry apdu line so_far goes taken
+    → AppendsPrefix mid new (held ++ line_text_with line entry.time apdu behind)
+    → WhereTold start (λ all. AppendsPrefix old new (frames_answer shown rows [] (records_of all)).report)
+stops_at_line shown start now later rows audit next records following held old mid new entry apdu line behind is so_far
+    goes taken
     knows opened begun all has =
     let told = knows so_far.past so_far.knows in
-    let is_line : line_text line entry.time apdu ≡ record_line rows so_far.past entry =
-    (λ i. line_text (told.0 i) entry.time (opened so_far.past so_far.knows i))
-    ∙ ap (λ rows. record_line rows so_far.past entry) so_far.rows_are in
-    let rest = frames_answer rows (entry.octets ∷ so_far.past) (left later following all) in
-    let is_left : frames_answer rows so_far.past (left now records all)
-    ≡ after (record_line rows so_far.past entry) rest =
-    ap (frames_answer rows so_far.past) (taken all (has_same start now [] records.held 0 goes all has))
-    ∙ one_more rows so_far.past entry (left later following all) in
-    let text : (held ++ line_text line entry.time apdu) ++ rest.report ≡ held
-    ++ (frames_answer rows so_far.past (left now records all)).report =
-    append_assoc held (line_text line entry.time apdu) rest.report ∙ ap (λ text. held ++ (text ++ rest.report)) is_line
+    let is_line : line_text_with line entry.time apdu behind ≡ record_line shown rows so_far.past entry =
+    ap (line_text_with line entry.time apdu) is
+    ∙ (λ i. line_text_with (told.0 i) entry.time (opened so_far.past so_far.knows i)
+    (shown (told.0 i) (opened so_far.past so_far.knows i)))
+    ∙ ap (λ rows. record_line shown rows so_far.past entry) so_far.rows_are in
+    let rest = frames_answer shown rows (entry.octets ∷ so_far.past) (left later following all) in
+    let is_left : frames_answer shown rows so_far.past (left now records all)
+    ≡ after (record_line shown rows so_far.past entry) rest =
+    ap (frames_answer shown rows so_far.past) (taken all (has_same start now [] records.held 0 goes all has))
+    ∙ one_more shown rows so_far.past entry (left later following all) in
+    let text : (held ++ line_text_with line entry.time apdu behind) ++ rest.report ≡ held
+    ++ (frames_answer shown rows so_far.past (left now records all)).report =
+    append_assoc held (line_text_with line entry.time apdu behind) rest.report ∙ ap (λ text. held ++ (text ++
+        rest.report)) is_line
     ∙ ap (λ answer. held ++ answer.report) (sym is_left) in
-    answers_all start now rows audit records held old mid new WriteFault so_far all has
-    (subst (AppendsPrefix mid new) text (prefix_more mid new (held ++ line_text line entry.time apdu) rest.report begun))
+    answers_all shown start now rows audit records held old mid new WriteFault so_far all has
+    (subst (AppendsPrefix mid new) text (prefix_more mid new (held ++ line_text_with line entry.time apdu behind)
+        rest.report begun))
 
-none_left : (rows : List Row) (past : List (List ℕ)) → frames_answer rows past no_records
+none_left : (shown : Behind) (rows : List Row) (past : List (List ℕ)) → frames_answer shown rows past no_records
     ≡ record { report = total_text (total_of rows past); status = total_status (total_of rows past) }
 unfolding frames_answer
-none_left rows past = refl
+none_left shown rows past = refl
 
-fault_left : (rows : List Row) (past : List (List ℕ)) (fault : RecordFault)
-    → frames_answer rows past (refused_by fault) ≡ refused (codes "frames") (frames_reason fault)
+fault_left : (shown : Behind) (rows : List Row) (past : List (List ℕ)) (fault : RecordFault)
+    → frames_answer shown rows past (refused_by fault) ≡ refused (codes "frames") (frames_reason fault)
 unfolding frames_answer
-fault_left rows past fault = refl
+fault_left shown rows past fault = refl
 
 -- the report was ended with the total
-pub finishes : (start now : Seen) (rows : List Row) (audit : AuditState) (records : ReaderState) (held : List ℕ)
+pub finishes : (shown : Behind) (start now : Seen) (rows : List Row) (audit : AuditState) (records : ReaderState)
+    (held : List ℕ)
     (old mid new : Option (List ℕ)) (status : Status)
-    → SoFar start now rows audit records held old mid → GoesOn start now [] records.held 0
+    → SoFar shown start now rows audit records held old mid → GoesOn start now [] records.held 0
     → WhereTold now (λ all. left now records all ≡ no_records)
     → Answers (after held (record { report = total_text audit.total; status = total_status audit.total })) status mid
     new
-    → WhereTold start (λ all. Answers (frames_answer rows [] (records_of all)) status old new)
-finishes start now rows audit records held old mid new status so_far goes none said all has =
+    → WhereTold start (λ all. Answers (frames_answer shown rows [] (records_of all)) status old new)
+finishes shown start now rows audit records held old mid new status so_far goes none said all has =
     let total : audit.total ≡ total_of rows so_far.past =
     so_far.knows.total ∙ ap (λ rows. total_of rows so_far.past) so_far.rows_are in
-    answers_all start now rows audit records held old mid new status so_far all has
+    answers_all shown start now rows audit records held old mid new status so_far all has
     (subst (λ answer. Answers (after held answer) status mid new)
-    (ap (λ t. record { report = total_text t; status = total_status t }) total ∙ sym (none_left rows so_far.past)
-    ∙ ap (frames_answer rows so_far.past) (sym (none all (has_same start now [] records.held 0 goes all has))))
+    (ap (λ t. record { report = total_text t; status = total_status t }) total ∙ sym (none_left shown rows so_far.past)
+    ∙ ap (frames_answer shown rows so_far.past) (sym (none all (has_same start now [] records.held 0 goes all has))))
     said)
 
 -- the report was ended with a refusal, or the reader stopped
-pub refuses : (start now later : Seen) (rows : List Row) (audit : AuditState) (records : ReaderState) (held : List ℕ)
+pub refuses : (shown : Behind) (start now later : Seen) (rows : List Row) (audit : AuditState) (records : ReaderState)
+    (held : List ℕ)
     (old mid new : Option (List ℕ)) (status : Status) (fault : RecordFault)
-    → SoFar start now rows audit records held old mid → GoesOn start now [] records.held 0
+    → SoFar shown start now rows audit records held old mid → GoesOn start now [] records.held 0
     → Refuses now later records fault → EndsList fault held status mid new
-    → WhereTold start (λ all. Answers (frames_answer rows [] (records_of all)) status old new)
-refuses start now later rows audit records held old mid new status fault so_far goes = by_fault fault where
+    → WhereTold start (λ all. Answers (frames_answer shown rows [] (records_of all)) status old new)
+refuses shown start now later rows audit records held old mid new status fault so_far goes = by_fault fault where
   at_text : (fault : RecordFault) → WhereTold now (λ all. left now records all ≡ refused_by fault)
       → Answers (after held (refused (codes "frames") (frames_reason fault))) status mid new
-      → WhereTold start (λ all. Answers (frames_answer rows [] (records_of all)) status old new)
-  at_text fault is said all has = answers_all start now rows audit records held old mid new status so_far all has
+      → WhereTold start (λ all. Answers (frames_answer shown rows [] (records_of all)) status old new)
+  at_text fault is said all has = answers_all shown start now rows audit records held old mid new status so_far all has
       (subst (λ answer. Answers (after held answer) status mid new)
-      (sym (fault_left rows so_far.past fault) ∙ ap (frames_answer rows so_far.past)
+      (sym (fault_left shown rows so_far.past fault) ∙ ap (frames_answer shown rows so_far.past)
       (sym (is all (has_same start now [] records.held 0 goes all has))))
       said)
 
   by_fault : (fault : RecordFault) → Refuses now later records fault → EndsList fault held status mid new
-      → WhereTold start (λ all. Answers (frames_answer rows [] (records_of all)) status old new)
+      → WhereTold start (λ all. Answers (frames_answer shown rows [] (records_of all)) status old new)
   by_fault (fault_.Line number cause) is said = at_text (fault_.Line number cause) is said
   by_fault (fault_.LongLine number) is said = at_text (fault_.LongLine number) is said
   by_fault (fault_.TooMany number) is said = at_text (fault_.TooMany number) is said
@@ -249,10 +270,11 @@ refuses start now later rows audit records held old mid new status fault so_far 
   by_fault (fault_.Missing field place) is said = at_text (fault_.Missing field place) is said
   by_fault (fault_.Time place) is said = at_text (fault_.Time place) is said
   by_fault (fault_.Digits place) is said = at_text (fault_.Digits place) is said
-  by_fault fault_.ReadFault is said = λ all has. subst (λ s. Answers (frames_answer rows [] (records_of all)) s old new)
-      (sym said.0) (stops start now rows audit records held old mid new so_far said.1 all has)
+  by_fault fault_.ReadFault is said = λ all has. subst (λ s. Answers (frames_answer shown rows [] (records_of all)) s
+      old new)
+      (sym said.0) (stops shown start now rows audit records held old mid new so_far said.1 all has)
   by_fault fault_.NoMemory is said =
-      λ all has. wants_memory start now rows audit records held old mid new status so_far said all has
+      λ all has. wants_memory shown start now rows audit records held old mid new status so_far said all has
 
 -- the file was read to its end
 pub reads_to_end : (start now later : Seen) (held kept : List ℕ) → start.place ≡ 0 → GoesOn start now [] held 0

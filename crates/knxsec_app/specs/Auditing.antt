@@ -14,19 +14,21 @@ use Rattle.frame_file.specs.declared.fault.RecordFault.{RecordFault}
 use Rattle.frame_file.specs.Lists.{Entry, RecordList}
 use Rattle.frame_file.specs.Records.{records_of}
 use Rattle.audit_core.specs.Audit.{Total, apdu_of, line_of, total_of}
-use Rattle.audit_core.specs.Text.{line_text, total_text}
+use Rattle.audit_core.specs.Text.{line_text_with, total_text}
 use Rattle.knxsec_app.specs.declared.status.Status.{Status}
 use Rattle.knxsec_app.specs.declared.status.Status.TheVariants.{Done, Alarm, ReadFault, NoMemory}
 use Rattle.knxsec_app.specs.declared.whole_file.WholeFile.{WholeFile}
-use Rattle.knxsec_app.specs.declared.whole_file.WholeFile.TheVariants.{Tables, Keyring, Password, Script}
+use Rattle.knxsec_app.specs.declared.whole_file.WholeFile.TheVariants.{Tables, Types, Keyring, Password, Script}
 use Rattle.knxsec_app.specs.Answer.{Answer, after, ◌>>=◌, answer_from}
 use Rattle.knxsec_app.specs.Refusing.{refused, tables_reason, frames_reason, keyring_reason}
+use Rattle.knxsec_app.specs.Showing.{Behind, nothing_shown}
 
 -- ---- files that are read whole
 
 -- the word for the file in a refusal
 abbrev pub word_of : WholeFile → List ℕ
 word_of Tables = codes "tables"
+word_of Types = codes "types"
 word_of Keyring = codes "keyring"
 word_of Password = codes "password"
 word_of Script = codes "script"
@@ -34,6 +36,7 @@ word_of Script = codes "script"
 -- the most octets that it may have
 abbrev pub most_of : WholeFile → ℕ
 most_of Tables = 4194304
+most_of Types = 4194304
 most_of Keyring = 4194304
 most_of Password = 4096
 most_of Script = 16777216
@@ -79,9 +82,11 @@ installation under tables = do
 
 -- ---- the records
 
--- the line of a record after those with these octets, of which the latest comes first
-abbrev pub record_line : List Row → List (List ℕ) → Entry → List ℕ
-record_line rows past entry = line_text (line_of rows past entry.octets) entry.time (apdu_of rows past entry.octets)
+-- the line of a record after those with these octets, of which the latest comes first, with what is shown behind it
+abbrev pub record_line : Behind → List Row → List (List ℕ) → Entry → List ℕ
+record_line shown rows past entry =
+    line_text_with (line_of rows past entry.octets) entry.time (apdu_of rows past entry.octets)
+    (shown (line_of rows past entry.octets) (apdu_of rows past entry.octets))
 
 abbrev pub total_status : Total → Status
 total_status total = if total.alarms == 0 then Done else Alarm
@@ -93,19 +98,19 @@ last_answer rows past None =
 last_answer rows past (Some fault) = refused (codes "frames") (frames_reason fault)
 
 -- the lines of these records after those, and then the total or the refusal
-abbrev pub records_answer : List Row → List (List ℕ) → List Entry → Option RecordFault → Answer
-records_answer rows past [] fault = last_answer rows past fault
-records_answer rows past (entry ∷ records) fault =
-    after (record_line rows past entry) (records_answer rows (entry.octets ∷ past) records fault)
+abbrev pub records_answer : Behind → List Row → List (List ℕ) → List Entry → Option RecordFault → Answer
+records_answer shown rows past [] fault = last_answer rows past fault
+records_answer shown rows past (entry ∷ records) fault =
+    after (record_line shown rows past entry) (records_answer shown rows (entry.octets ∷ past) records fault)
 
-unfoldable pub frames_answer : List Row → List (List ℕ) → RecordList → Answer
-frames_answer rows past list = records_answer rows past list.records list.refused
+unfoldable pub frames_answer : Behind → List Row → List (List ℕ) → RecordList → Answer
+frames_answer shown rows past list = records_answer shown rows past list.records list.refused
 
 -- ---- the audit under tables, and under the rows of a keyring where there is one
 
 abbrev pub tables_answer : Option (List Row) → List ℕ → List ℕ → Answer
 tables_answer under tables frames =
-    answer_from (installation under tables) (λ rows. frames_answer rows [] (records_of frames))
+    answer_from (installation under tables) (λ rows. frames_answer nothing_shown rows [] (records_of frames))
 
 -- the answer of an audit of the second file under the first
 abbrev pub audit_answer : List ℕ → List ℕ → Answer

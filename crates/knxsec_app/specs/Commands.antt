@@ -1,7 +1,6 @@
 -- The answer of a whole command, as a function of its words and files.
 use Rattle.std.specs.Prelude.{◌≡◌, ◌≢◌, ℕ, List, [], ◌∷◌, ◌++◌, length, codes, Option, Some, None, unwrap_or, Ok, IsErr}
 use Rattle.knx_base.specs.Files.{File, Seen, IsThere, octets_named}
-use Rattle.hex.specs.Hex.{encode_lower}
 use Rattle.judge_rules.specs.declared.verdict.Verdict.{Verdict}
 use Rattle.judge_rules.specs.Text.{verdict_text}
 use Rattle.key_tables.specs.declared.types.Row.{Row}
@@ -11,20 +10,22 @@ use Rattle.install_run.specs.World.{WorldState}
 use Rattle.knxsec_app.specs.declared.status.Status.{Status}
 use Rattle.knxsec_app.specs.declared.status.Status.TheVariants.{Done, Alarm, Usage, ReadFault, NoMemory}
 use Rattle.knxsec_app.specs.declared.whole_file.WholeFile.TheVariants.{Keyring}
-use Rattle.knxsec_app.specs.Words.{Asked, Open, Audit, AuditKeyring, Replay, Make, command_of}
+use Rattle.knxsec_app.specs.Words.{Asked, Open, Audit, AuditKeyring, Replay, Make, AuditValues, Encode, command_of}
 use Rattle.knxsec_app.specs.Answer.{Answer}
 use Rattle.knxsec_app.specs.Opening.{refusal_of, apdu_of}
 use Rattle.knxsec_app.specs.Replaying.{IsPlayed, replay_answer, make_answer, script_in}
 use Rattle.knxsec_app.specs.Auditing.{within, installation, keyring_rows, audit_answer, keyring_answer}
+use Rattle.knxsec_app.specs.Values.{types_in, values_answer}
+use Rattle.knxsec_app.specs.Encoding.{apdu_answer, encoding_answer}
 
 -- printed where the words are of no form
 abbrev pub usage_line : List ℕ
 usage_line =
-    codes "usage: knxsec open KEYHEX FRAMEHEX | audit TABLES FRAMES | audit-keyring KEYRING PASSWORDFILE TABLES FRAMES | replay SCRIPT | make NUMBER COUNT\n"
+    codes "usage: knxsec open KEYHEX FRAMEHEX | audit TABLES FRAMES | audit-keyring KEYRING PASSWORDFILE TABLES FRAMES | replay SCRIPT | make NUMBER COUNT | audit-values TABLES TYPES FRAMES | encode TYPE TEXT\n"
 
 -- the APDU in hexadecimal, or the verdict
 abbrev pub opening_answer : Option Verdict → List ℕ → Answer
-opening_answer None apdu = record { report = encode_lower apdu ++ 10 ∷ []; status = Done }
+opening_answer None apdu = apdu_answer apdu
 opening_answer (Some verdict) apdu = record { report = verdict_text verdict [] ++ 10 ∷ []; status = Alarm }
 
 -- the octets of the file of this name
@@ -41,6 +42,9 @@ answer_to (Some (AuditKeyring keyring password tables frames)) files =
     (octets_in files frames)
 answer_to (Some (Replay script)) files = replay_answer (octets_in files script)
 answer_to (Some (Make number count)) files = make_answer number count
+answer_to (Some (AuditValues tables types frames)) files =
+    values_answer (octets_in files tables) (octets_in files types) (octets_in files frames)
+answer_to (Some (Encode dpt text)) files = encoding_answer dpt text
 
 -- the answer to the words, where these are the files
 abbrev pub answer_of : List (List ℕ) → List File → Answer
@@ -54,6 +58,8 @@ NamesNoFile (Some (Audit tables frames)) = ⊥
 NamesNoFile (Some (AuditKeyring keyring password tables frames)) = ⊥
 NamesNoFile (Some (Replay script)) = ⊥
 NamesNoFile (Some (Make number count)) = Unit {0}
+NamesNoFile (Some (AuditValues tables types frames)) = ⊥
+NamesNoFile (Some (Encode dpt text)) = Unit {0}
 
 -- each file that the command names is one of these
 abbrev pub AreThere : Option Asked → List File → Type 0
@@ -64,6 +70,9 @@ AreThere (Some (AuditKeyring keyring password tables frames)) files =
     IsThere files keyring × IsThere files password × IsThere files tables × IsThere files frames
 AreThere (Some (Replay script)) files = IsThere files script
 AreThere (Some (Make number count)) files = Unit {0}
+AreThere (Some (AuditValues tables types frames)) files =
+    IsThere files tables × IsThere files types × IsThere files frames
+AreThere (Some (Encode dpt text)) files = Unit {0}
 
 -- these are the files, as far as the command names any
 abbrev pub AreFiles : Option Asked → Seen → List File → Type 0
@@ -73,6 +82,8 @@ AreFiles (Some (Audit tables frames)) seen files = seen.told ≡ Some files
 AreFiles (Some (AuditKeyring keyring password tables frames)) seen files = seen.told ≡ Some files
 AreFiles (Some (Replay script)) seen files = seen.told ≡ Some files
 AreFiles (Some (Make number count)) seen files = Unit {0}
+AreFiles (Some (AuditValues tables types frames)) seen files = seen.told ≡ Some files
+AreFiles (Some (Encode dpt text)) seen files = Unit {0}
 
 -- the file of this name was read to its end
 abbrev pub IsRead : List File → Seen → List ℕ → Type 0
@@ -87,6 +98,9 @@ AreRead (Some (AuditKeyring keyring password tables frames)) files seen =
     IsRead files seen keyring × IsRead files seen password × IsRead files seen tables × IsRead files seen frames
 AreRead (Some (Replay script)) files seen = IsRead files seen script
 AreRead (Some (Make number count)) files seen = Unit {0}
+AreRead (Some (AuditValues tables types frames)) files seen =
+    IsRead files seen tables × IsRead files seen types × IsRead files seen frames
+AreRead (Some (Encode dpt text)) files seen = Unit {0}
 
 abbrev pub Stays : Seen → Seen → List ℕ → Type 0
 Stays old new name = new.places name ≡ old.places name
@@ -106,6 +120,11 @@ AreUnopened (Some (AuditKeyring keyring password tables frames)) files old new =
     → (other : List ℕ) → other ≢ keyring → other ≢ password → other ≢ tables → Stays old new other)
 AreUnopened (Some (Replay script)) files old new = (other : List ℕ) → other ≢ script → Stays old new other
 AreUnopened (Some (Make number count)) files old new = Unit {0}
+AreUnopened (Some (AuditValues tables types frames)) files old new =
+    (IsErr (installation None (octets_in files tables)) → (other : List ℕ) → other ≢ tables → Stays old new other)
+    × (IsErr (types_in (octets_in files types)) → (other : List ℕ) → other ≢ tables → other ≢ types
+    → Stays old new other)
+AreUnopened (Some (Encode dpt text)) files old new = Unit {0}
 
 -- the report was written to its end after all files were read
 abbrev pub IsWhole : Status → Type 0
@@ -127,6 +146,8 @@ TakesNoMemory (Some (Audit tables frames)) = ⊥
 TakesNoMemory (Some (AuditKeyring keyring password tables frames)) = ⊥
 TakesNoMemory (Some (Replay script)) = ⊥
 TakesNoMemory (Some (Make number count)) = ⊥
+TakesNoMemory (Some (AuditValues tables types frames)) = ⊥
+TakesNoMemory (Some (Encode dpt text)) = Unit {0}
 
 -- A command that names no file leaves the files alone; one that takes no memory is never answered for want of it.
 pub record LeavesAlone (asked : Option Asked) (status : Status) (same_files : Type 0) : Type 0 where
@@ -144,6 +165,8 @@ Steps (Some (Audit tables frames)) files s = ⊥
 Steps (Some (AuditKeyring keyring password tables frames)) files s = ⊥
 Steps (Some (Replay script)) files s = script_in (octets_in files script) ≡ Ok s
 Steps (Some (Make number count)) files s = s ≡ made_script number count
+Steps (Some (AuditValues tables types frames)) files s = ⊥
+Steps (Some (Encode dpt text)) files s = ⊥
 
 -- the command steps an installation
 abbrev pub StepsSome : Option Asked → Type 0
@@ -153,6 +176,8 @@ StepsSome (Some (Audit tables frames)) = ⊥
 StepsSome (Some (AuditKeyring keyring password tables frames)) = ⊥
 StepsSome (Some (Replay script)) = Unit {0}
 StepsSome (Some (Make number count)) = Unit {0}
+StepsSome (Some (AuditValues tables types frames)) = ⊥
+StepsSome (Some (Encode dpt text)) = ⊥
 
 -- a world went through the script that the command names
 pub record PlayedIn (asked : Option Asked) (files : List File) (played : Option WorldState) : Type 0 where

@@ -2,6 +2,7 @@ pub mod Answer
 pub mod Asked
 pub mod Auditing
 pub mod Commands
+pub mod Encoding
 pub mod Ends
 pub mod Opening
 pub mod Order
@@ -9,5 +10,7 @@ pub mod Page
 pub mod Reasons
 pub mod Refusing
 pub mod Replaying
+pub mod Showing
 pub mod Status
+pub mod Values
 pub mod Words

@@ -2,7 +2,7 @@
 use Rattle.std.specs.Prelude.{◌≡◌, ◌≢◌, ◌⊎◌, ℕ, List, [], ◌∷◌, length, Option, Some, None}
 use Rattle.knx_base.specs.Files.{File, Seen}
 use Rattle.knxsec_app.specs.declared.status.Status.{Status}
-use Rattle.knxsec_app.specs.Words.{Asked, Open, Audit, AuditKeyring, Replay, Make}
+use Rattle.knxsec_app.specs.Words.{Asked, Open, Audit, AuditKeyring, Replay, Make, AuditValues, Encode}
 use Rattle.knxsec_app.specs.Commands.{octets_in, AreFiles, AreRead, AreUnopened, IsServed, IsWhole}
 
 -- the names of the files, in the order of the words
@@ -13,6 +13,8 @@ files_of (Some (Audit tables frames)) = tables ∷ frames ∷ []
 files_of (Some (AuditKeyring keyring password tables frames)) = keyring ∷ password ∷ tables ∷ frames ∷ []
 files_of (Some (Replay script)) = script ∷ []
 files_of (Some (Make number count)) = []
+files_of (Some (AuditValues tables types frames)) = tables ∷ types ∷ frames ∷ []
+files_of (Some (Encode dpt text)) = []
 
 -- the places in files, by their names, at two moments: none changed
 abbrev pub AllStay : (List ℕ → ℕ) → (List ℕ → ℕ) → Type 0

@@ -11,6 +11,8 @@ use Rattle.keyring_reader.specs.declared.fault.KeyringFault.TheVariants as keyri
 use Rattle.keyring_reader.specs.Keyring.{keyring_of}
 use Rattle.script_text.specs.declared.fault.ScriptFault.TheVariants as script
 use Rattle.script_text.specs.Text.{script_of}
+use Rattle.datapoints.specs.declared.types.TypesFault.TheVariants as types
+use Rattle.datapoints.specs.Types.{types_of}
 use Rattle.frame_file.specs.Lists.{IsOfText}
 use Rattle.frame_file.specs.Records.{records_of}
 
@@ -29,6 +31,7 @@ pub record NeverWants (octets password : List ℕ) : Type 0 where
 -- said twice: what is told as `many` is that there are too many.
 pub record HaveReasons : Type 0 where
   pub tables : (text : List ℕ) → tables_of text ≢ Err tables.NoMemory
+  pub types : (text : List ℕ) → types_of text ≢ Err types.NoMemory
   pub script : (text : List ℕ) → script_of text ≢ Err script.NoMemory
   pub frames : (octets : List ℕ) → IfSome (records_of octets).refused IsOfText
   pub keyring : (octets password : List ℕ) → NeverWants octets password

@@ -6,6 +6,8 @@ use Rattle.key_tables.specs.declared.faults.BuildFault.{BuildFault}
 use Rattle.key_tables.specs.declared.faults.BuildFault.TheVariants as build
 use Rattle.key_tables.specs.declared.faults.TablesFault.{TablesFault}
 use Rattle.key_tables.specs.declared.faults.TablesFault.TheVariants as tables
+use Rattle.datapoints.specs.declared.types.TypesFault.{TypesFault}
+use Rattle.datapoints.specs.declared.types.TypesFault.TheVariants as types
 use Rattle.script_text.specs.declared.fault.ScriptFault.{ScriptFault}
 use Rattle.script_text.specs.declared.fault.ScriptFault.TheVariants as script
 use Rattle.tag_text.specs.declared.tag.TagFault.{TagFault}
@@ -36,6 +38,13 @@ tables_reason (tables.Line number cause) = at_line number (cause_word cause)
 tables_reason (tables.Twice number) = at_line number (codes "twice")
 tables_reason (tables.TooMany number) = at_line number (codes "many")
 tables_reason tables.NoMemory = []
+
+-- the same of types of groups, by `types`
+abbrev pub types_reason : TypesFault → List ℕ
+types_reason (types.Line number cause) = at_line number (cause_word cause)
+types_reason (types.Twice number) = at_line number (codes "twice")
+types_reason (types.TooMany number) = at_line number (codes "many")
+types_reason types.NoMemory = []
 
 -- the same of a script, by `script`
 abbrev pub script_reason : ScriptFault → List ℕ
@@ -98,6 +107,11 @@ keyring_reason keyring.NoMemory = []
 abbrev pub EndsTables : TablesFault → Status → Option (List ℕ) → Option (List ℕ) → Type 0
 EndsTables tables.NoMemory ended old new = (ended ≡ status.NoMemory) × (new ≡ old)
 EndsTables fault ended old new = Answers (refused (codes "tables") (tables_reason fault)) ended old new
+
+-- The same of types of groups.
+abbrev pub EndsTypes : TypesFault → Status → Option (List ℕ) → Option (List ℕ) → Type 0
+EndsTypes types.NoMemory ended old new = (ended ≡ status.NoMemory) × (new ≡ old)
+EndsTypes fault ended old new = Answers (refused (codes "types") (types_reason fault)) ended old new
 
 -- The same of a script.
 abbrev pub EndsScript : ScriptFault → Status → Option (List ℕ) → Option (List ℕ) → Type 0

@@ -16,6 +16,7 @@ use crate::Status;
 use crate::page::Page;
 use crate::refusing::{refuse_merged, refuse_tables};
 use crate::report::{finish, finish_frames, pass_line, stop_without_memory};
+use crate::showing::{NothingShown, Showing};
 use crate::whole_file::WholeFile;
 use audit_core::Audit;
 use frame_file::Records;
@@ -52,13 +53,13 @@ pub(crate) fn audit<F: Files, S: Sink>(
     ensures ends { EndsReading (F.seen files.old) (F.seen files.new) (S.faults out.old) (S.faults out.new) result }
 {
     match read_installation(alloc, tables, under, files, out) {
-        Ok(rows) => audit_frames(alloc, rows, frames, files, out),
+        Ok(rows) => audit_frames(alloc, rows, &NothingShown, frames, files, out),
         Err(status) => status,
     }
 }
 
-// The rows of the named tables, over those of a keyring where there is one; or their refusal is told.
-fn read_installation<F: Files, S: Sink>(
+/// The rows of the named tables, over those of a keyring where there is one; or their refusal is told.
+pub(crate) fn read_installation<F: Files, S: Sink>(
     alloc: Global,
     name: &str,
     under: Option<&[Row]>,
@@ -148,17 +149,19 @@ fn merge<S: Sink>(alloc: Global, over: &[Row], under: &[Row], out: &mut S) -> Re
     }
 }
 
-// The audit of the named file under these tables.
-fn audit_frames<F: Files, S: Sink>(
+/// The audit of the named file under these tables, with what is to be shown behind each APDU.
+pub(crate) fn audit_frames<F: Files, S: Sink, W: Showing>(
     alloc: Global,
     tables: Tables,
+    showing: &W,
     frames: &str,
     files: &mut F,
     out: &mut S,
 ) -> Status
     requires there { ForSome (F.seen files.old).told (λ told. IsThere told frames.now) }
     ensures answer { (octets : List ℕ) → Holds (F.seen files.old) frames.now octets
-        → Answers (frames_answer tables [] (records_of octets)) result (S.octets out.old) (S.octets out.new) }
+        → Answers (frames_answer (W.shown showing.now) tables [] (records_of octets)) result (S.octets out.old)
+        (S.octets out.new) }
     ensures whole { IsWhole result → (octets : List ℕ) → Holds (F.seen files.old) frames.now octets
         → (F.seen files.new).places frames.now ≡ length octets }
     ensures others { OthersStay (F.seen files.old) (F.seen files.new) frames.now }
@@ -168,20 +171,21 @@ fn audit_frames<F: Files, S: Sink>(
     let Ok(()) = files.open(frames) else {
         return Status::ReadFault;
     };
-    audit_current(alloc, tables, files, out)
+    audit_current(alloc, tables, showing, files, out)
 }
 
 // The audit of the current file, of which nothing was read.
-fn audit_current<F: Files, S: Sink>(
+fn audit_current<F: Files, S: Sink, W: Showing>(
     alloc: Global,
     tables: Tables,
+    showing: &W,
     files: &mut F,
     out: &mut S,
 ) -> Status
     requires current { IsSome (F.seen files.old).current }
     requires start { (F.seen files.old).place ≡ 0 }
-    ensures answer { WhereTold (F.seen files.old) (λ octets. Answers (frames_answer tables [] (records_of octets))
-        result (S.octets out.old) (S.octets out.new)) }
+    ensures answer { WhereTold (F.seen files.old) (λ octets. Answers (frames_answer (W.shown showing.now) tables []
+        (records_of octets)) result (S.octets out.old) (S.octets out.new)) }
     ensures whole { IsWhole result → ReadsToEnd (F.seen files.old) (F.seen files.new) }
     ensures others { reading.OthersStay (F.seen files.old) (F.seen files.new) }
     ensures told { (F.seen files.new).told ≡ (F.seen files.old).told }
@@ -201,7 +205,8 @@ fn audit_current<F: Files, S: Sink>(
                 let Ok(line) = audit.frame(record.octets, &mut apdu) else {
                     return stop_without_memory(&mut page, out);
                 };
-                let Ok(()) = pass_line(&line, record.time, &apdu, &mut page, out) else {
+                let behind = showing.show(&line, apdu.bytes());
+                let Ok(()) = pass_line(&line, record.time, &apdu, &behind, &mut page, out) else {
                     return Status::WriteFault;
                 };
             }

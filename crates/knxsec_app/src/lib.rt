@@ -3,6 +3,7 @@
 
 mod auditing;
 mod count_word;
+mod encoding;
 mod ending;
 mod exit;
 mod frame_word;
@@ -14,10 +15,12 @@ mod part;
 mod playing;
 mod refusing;
 mod report;
+mod showing;
 mod status;
 #[cfg(test)]
 mod tests;
 mod top;
+mod values;
 mod whole_file;
 mod words;
 

@@ -9,10 +9,12 @@ ghost use Rattle.knxsec_app.specs.Order.{OpensInOrder, files_of};
 
 use crate::Status;
 use crate::auditing::audit;
+use crate::encoding::encode;
 use crate::ending::ended;
 use crate::keyring::audit_by_keyring;
 use crate::opening::open;
 use crate::playing::{make, replay};
+use crate::values::audit_values;
 use crate::words::Command;
 use install_run::World;
 use knx_base::{Files, Sink, print_text};
@@ -48,6 +50,8 @@ pub(crate) fn obey<F: Files, S: Sink>(
         Command::AuditKeyring(names) => audit_by_keyring(alloc, names, files, out),
         Command::Replay { script } => replay(alloc, script, files, out, played),
         Command::Make { number, count } => make(alloc, *number, count, out, played),
+        Command::AuditValues(names) => audit_values(alloc, names, files, out),
+        Command::Encode { dpt, text } => encode(*dpt, text, out),
     }
 }
 
@@ -61,4 +65,4 @@ pub(crate) fn print_usage<S: Sink>(out: &mut S) -> Status
 
 const USAGE_LINE: &str =
     "usage: knxsec open KEYHEX FRAMEHEX | audit TABLES FRAMES | audit-keyring KEYRING PASSWORDFILE TABLES FRAMES | \
-         replay SCRIPT | make NUMBER COUNT\n";
+         replay SCRIPT | make NUMBER COUNT | audit-values TABLES TYPES FRAMES | encode TYPE TEXT\n";

@@ -1,4 +1,4 @@
-ghost use Rattle.std.specs.Prelude.{◌≡◌, ◌≢◌, ◌++◌, ◌∷◌, [], Some, None};
+ghost use Rattle.std.specs.Prelude.{◌≡◌, ◌≢◌, ◌≤◌, ◌++◌, ◌∷◌, [], length, Some, None};
 ghost use Rattle.hex.specs.Hex.{encode_lower};
 ghost use Rattle.knx_base.specs.Faults.{HasCause};
 ghost use Rattle.knx_base.specs.Sink.{Prints};
@@ -29,17 +29,19 @@ pub(crate) fn open<S: Sink>(key: &[u8; 16], frame: &FrameWord, out: &mut S) -> S
 {
     let mut apdu = ApduBuf::new();
     match refuse(&Key128::new(*key), frame.bytes(), &mut apdu) {
-        None => ended(print_apdu(&apdu, out), Status::Done),
+        None => ended(print_apdu(apdu.bytes(), out), Status::Done),
         Some(verdict) => ended(print_refusal(&verdict, out), Status::Alarm),
     }
 }
 
-fn print_apdu<S: Sink>(apdu: &ApduBuf, out: &mut S) -> Result<(), Failed>
+/// Prints an APDU in hexadecimal.
+pub(crate) fn print_apdu<S: Sink>(apdu: &[u8], out: &mut S) -> Result<(), Failed>
+    requires short { length apdu.now ≤ 242 }
     ensures text { Prints (S.octets out.old) (S.octets out.new) result (encode_lower apdu.now ++ 10 ∷ []) }
     ensures cause { HasCause (S.faults out.old) (S.faults out.new) result }
 {
     let mut line = LineBuf::new();
-    line.hex(apdu.bytes());
+    line.hex(apdu);
     line.octet(b'\n');
     print_text(line.bytes(), out)
 }

@@ -3,10 +3,11 @@ ghost use Rattle.keyring_reader.specs.Attributes.{name_of};
 ghost use Rattle.knxsec_app.specs.Answer.{Answer, Answers};
 ghost use Rattle.knxsec_app.specs.Commands.{IsWhole};
 ghost use Rattle.knxsec_app.specs.Ends.{EndsTelling, EndsWriting};
-ghost use Rattle.knxsec_app.specs.Refusing.{at_line, at_place, document_reason, field_name, frames_reason, keyring_reason, missing_reason, stored_text, refused, EndsMerged, EndsScript, EndsTables};
+ghost use Rattle.knxsec_app.specs.Refusing.{at_line, at_place, document_reason, field_name, frames_reason, keyring_reason, missing_reason, stored_text, refused, EndsMerged, EndsScript, EndsTables, EndsTypes};
 
 use crate::Status;
 use crate::ending::ended;
+use datapoints::TypesFault;
 use frame_file::{Field, RecordFault};
 use key_tables::{BuildFault, TablesFault};
 use keyring_reader::{Attribute, KeyringFault};
@@ -62,6 +63,21 @@ pub(crate) fn refuse_tables<S: Sink>(fault: &TablesFault, out: &mut S) -> Status
         TablesFault::Twice(line) => refuse(&line_at("tables", *line, "twice"), out),
         TablesFault::TooMany(line) => refuse(&line_at("tables", *line, "many"), out),
         TablesFault::NoMemory => Status::NoMemory,
+    }
+}
+
+/// Says why a text of types is refused.
+pub(crate) fn refuse_types<S: Sink>(fault: &TypesFault, out: &mut S) -> Status
+    ensures answer { EndsTypes fault.now result (S.octets out.old) (S.octets out.new) }
+    ensures memory { result ≡ Status.NoMemory → fault.now ≡ TypesFault.NoMemory }
+    ensures ends { EndsTelling (S.faults out.old) (S.faults out.new) result }
+    ensures not_whole { IsWhole result → ⊥ }
+{
+    match fault {
+        TypesFault::Line(line, cause) => refuse(&line_at("types", *line, cause.word()), out),
+        TypesFault::Twice(line) => refuse(&line_at("types", *line, "twice"), out),
+        TypesFault::TooMany(line) => refuse(&line_at("types", *line, "many"), out),
+        TypesFault::NoMemory => Status::NoMemory,
     }
 }
 

@@ -1,7 +1,7 @@
 ghost use Rattle.std.specs.Prelude.{◌≡◌, ◌≤◌};
 ghost use Rattle.knx_base.specs.Faults.{HasCause};
 ghost use Rattle.knx_base.specs.Sink.{Prints, AppendsPrefix};
-ghost use Rattle.audit_core.specs.Text.{line_text, total_text};
+ghost use Rattle.audit_core.specs.Text.{line_text_with, total_text};
 ghost use Rattle.knxsec_app.specs.Answer.{Answer, Answers, after};
 ghost use Rattle.knxsec_app.specs.Auditing.{total_status};
 ghost use Rattle.knxsec_app.specs.Ends.{EndsPage, EndsTelling, EndsWriting};
@@ -14,24 +14,26 @@ use crate::ending::ended;
 use crate::page::Page;
 use crate::part::{Part, pass};
 use crate::refusing::{frames_line, refuse};
-use audit_core::{Audit, Line, print_line};
+use audit_core::{Audit, Line, print_line_with};
+use datapoints::ShownValue;
 use frame_file::RecordFault;
 use knx_base::{Failed, LineBuf, Sink};
 use secure_apdu::ApduBuf;
 
-/// The line of a record, with its time where that is known, and the APDU that was opened.
+/// The line of a record, with its time where that is known, the APDU that was opened, and what is shown behind it.
 #[derive(Drop)]
 struct RecordLine<'a> {
     line: &'a Line,
     time: Option<i64>,
     apdu: &'a ApduBuf,
+    behind: &'a ShownValue,
 }
 
 impl Part for RecordLine<'_> {
-    ghost text = { λ r. line_text r.line.now r.time r.apdu.now };
+    ghost text = { λ r. line_text_with r.line.now r.time r.apdu.now r.behind.now };
 
     fn print<S: Sink>(&self, out: &mut S) -> Result<(), Failed> {
-        print_line(self.line, self.time, self.apdu, out)
+        print_line_with(self.line, self.time, self.apdu, self.behind.bytes(), out)
     }
 }
 
@@ -40,14 +42,21 @@ pub(crate) fn pass_line<S: Sink>(
     line: &Line,
     time: Option<i64>,
     apdu: &ApduBuf,
+    behind: &ShownValue,
     page: &mut Page,
     out: &mut S,
 ) -> Result<(), Failed>
     ensures text { Passes page.old.held page.new.held (S.octets out.old) (S.octets out.new) result
-        (line_text line.now time apdu.now) }
+        (line_text_with line.now time apdu.now behind.now) }
     ensures cause { HasCause (S.faults out.old) (S.faults out.new) result }
 {
-    pass(&RecordLine { line, time, apdu }, page, out)
+    let part = RecordLine {
+        line,
+        time,
+        apdu,
+        behind,
+    };
+    pass(&part, page, out)
 }
 
 /// Hands on what waits, and ends the report with the total.

@@ -9,6 +9,7 @@ mod faults;
 mod keyrings;
 mod logs;
 mod replays;
+mod values;
 
 const KEY: &str = "000102030405060708090a0b0c0d0e0f";
 
@@ -35,7 +36,7 @@ fn printed<R: rt::Files + AllocGlobal>(
 fn words_of_no_form_print_the_usage_line(rt: HostRuntime) -> Result<(), Fail> {
     let usage =
         b"usage: knxsec open KEYHEX FRAMEHEX | audit TABLES FRAMES | audit-keyring KEYRING PASSWORDFILE TABLES FRAMES | \
-             replay SCRIPT | make NUMBER COUNT\n";
+             replay SCRIPT | make NUMBER COUNT | audit-values TABLES TYPES FRAMES | encode TYPE TEXT\n";
     let short_key = "000102030405060708090a0b0c0d0e0";
     for texts in [["open", short_key, TELEGRAM], ["open", KEY, ""]] {
         let (out, status) = printed(&rt, &texts, 1000)?;

@@ -26,6 +26,9 @@ use std::alloc::Global;
 /// - `replay SCRIPT` steps an installation through the script in the file SCRIPT, and tells each step and how it ends.
 /// - `make NUMBER COUNT` does so with the script that is made from a number up to 4,294,967,295, of 1 to 100,000
 ///   events, and tells what came of them in figures.
+/// - `audit-values TABLES TYPES FRAMES` judges as `audit` does, and shows the values of the groups whose types
+///   stand in the file TYPES.
+/// - `encode TYPE TEXT` prints the APDU of a GroupValue_Write that carries the value of the text, or `no-value`.
 ///
 /// With Done of `replay` or `make` the world that was stepped stands in `played`, which no other command touches.
 ///
@@ -56,7 +59,7 @@ pub fn run<F: Files, S: Sink>(
     // A fault is answered where it was counted in this call, and nowhere else is one counted.
     ensures counted { IsCounted (F.seen files.old) (F.seen files.new) (S.faults out.old) (S.faults out.new) result }
 
-    // A command that names no file leaves the files alone, and one that opens a frame takes no memory.
+    // A command that names no file leaves the files alone; opening a frame and encoding a text take no memory.
     ensures alone { LeavesAlone (command_of (map string_bytes words.now)) result (files.new ≡ files.old) }
 
     // A replay leaves the world that it stepped. Every other command, and every other status, leaves what was there.

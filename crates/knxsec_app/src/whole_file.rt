@@ -15,6 +15,7 @@ use text_lines::{FileFault, read_all};
 #[derive(Clone, Copy)]
 pub(crate) enum WholeFile {
     Tables,
+    Types,
     Keyring,
     Password,
     Script,
@@ -28,6 +29,7 @@ impl WholeFile {
     {
         match self {
             WholeFile::Tables => "tables",
+            WholeFile::Types => "types",
             WholeFile::Keyring => "keyring",
             WholeFile::Password => "password",
             WholeFile::Script => "script",
@@ -40,6 +42,7 @@ impl WholeFile {
     {
         match self {
             WholeFile::Tables => 4_194_304,
+            WholeFile::Types => 4_194_304,
             WholeFile::Keyring => 4_194_304,
             WholeFile::Password => 4096,
             WholeFile::Script => 16_777_216,

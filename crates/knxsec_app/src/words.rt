@@ -1,11 +1,13 @@
 ghost use Rattle.std.specs.Prelude.{◌≡◌, ◌∷◌, [], map};
 ghost use Rattle.std.specs.Option.{option_map};
 ghost use Rattle.std.specs.String.{string_bytes};
-ghost use Rattle.knxsec_app.specs.Words.{command_of, count_of, making, number_of, opening, octets_between};
+ghost use Rattle.datapoints.specs.Names.{type_named};
+ghost use Rattle.knxsec_app.specs.Words.{command_of, count_of, encoding, making, number_of, opening, octets_between};
 ghost use Rattle.knxsec_app.specs.Asked.{asked_of};
 
 use crate::count_word::EventCount;
 use crate::frame_word::FrameWord;
+use datapoints::Dpt;
 use hex::FromHex;
 use knx_base::read_decimal;
 
@@ -22,6 +24,10 @@ pub(crate) enum Command<'a> {
     Replay { script: &'a str },
     /// The same with the script that is made from a number, of so many events.
     Make { number: u32, count: EventCount },
+    /// To judge records under tables, and to show the values of the groups that have a type.
+    AuditValues(ValuesNames<'a>),
+    /// To print the APDU that writes the value of this text.
+    Encode { dpt: Dpt, text: &'a str },
 }
 
 /// The names of the files of an audit by a keyring.
@@ -30,6 +36,14 @@ pub(crate) struct KeyringNames<'a> {
     pub(crate) keyring: &'a str,
     pub(crate) password: &'a str,
     pub(crate) tables: &'a str,
+    pub(crate) frames: &'a str,
+}
+
+/// The names of the files of an audit with values.
+#[derive(Clone, Copy)]
+pub(crate) struct ValuesNames<'a> {
+    pub(crate) tables: &'a str,
+    pub(crate) types: &'a str,
     pub(crate) frames: &'a str,
 }
 
@@ -49,6 +63,14 @@ pub(crate) fn read_words(words: &[String]) -> Option<Command<'_>>
     match words {
         [verb, script] => read_one(verb, script),
         [verb, first, second] => read_two(verb, first, second),
+        [verb, tables, types, frames] => {
+            let names = ValuesNames {
+                tables,
+                types,
+                frames,
+            };
+            read_three(verb, names)
+        }
         [verb, keyring, password, tables, frames] => {
             let names = KeyringNames {
                 keyring,
@@ -67,6 +89,17 @@ fn read_one<'a>(verb: &str, script: &'a str) -> Option<Command<'a>>
 {
     if verb == "replay" {
         Some(Command::Replay { script })
+    } else {
+        None
+    }
+}
+
+fn read_three<'a>(verb: &str, names: ValuesNames<'a>) -> Option<Command<'a>>
+    ensures asked { option_map asked_of result ≡ command_of (verb.now ∷ names.entry.tables.now
+        ∷ names.entry.types.now ∷ names.entry.frames.now ∷ []) }
+{
+    if verb == "audit-values" {
+        Some(Command::AuditValues(names))
     } else {
         None
     }
@@ -94,8 +127,18 @@ fn read_two<'a>(verb: &str, first: &'a str, second: &'a str) -> Option<Command<'
             frames: second,
         }),
         "make" => read_making(first, second),
+        "encode" => read_encoding(first, second),
         _ => None,
     }
+}
+
+fn read_encoding<'a>(dpt: &str, text: &'a str) -> Option<Command<'a>>
+    ensures asked { option_map asked_of result ≡ encoding (type_named dpt.now) text.now }
+{
+    let Some(dpt) = Dpt::read(dpt) else {
+        return None;
+    };
+    Some(Command::Encode { dpt, text })
 }
 
 fn read_making<'a>(number: &str, count: &str) -> Option<Command<'a>>

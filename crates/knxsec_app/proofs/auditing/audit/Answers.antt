@@ -4,6 +4,7 @@ use Rattle.frame_file.specs.Records.{records_of}
 use Rattle.knxsec_app.specs.Asked.{rows_of}
 use Rattle.knxsec_app.specs.Auditing.{frames_answer, installation}
 use Rattle.knxsec_app.specs.Commands.{octets_in}
+use Rattle.knxsec_app.specs.Showing.{nothing_shown}
 use Rattle.knxsec_app.proofs.Ordered.{only_of, reads_of}
 use Rattle.knxsec_app.proofs.Stopping.{stops_command}
 use Rattle.knxsec_app.proofs.auditing.audit.Goals as goal
@@ -11,7 +12,7 @@ use Rattle.knxsec_app.proofs.auditing.audit.Goals as goal
 pub returns-in-Err-clause-answer : goal.returns-in-Err-clause-answer
 returns-in-Err-clause-answer g c told is =
     stops_command (installation (rows_of c.args.under) (octets_in told c.args.tables.now))
-    (λ rows. frames_answer rows [] (records_of (octets_in told c.args.frames.now))) _ _ _
+    (λ rows. frames_answer nothing_shown rows [] (records_of (octets_in told c.args.frames.now))) _ _ _
     (c.in-Err.ensures.rows told is)
 
 pub returns-in-Err-clause-order : goal.returns-in-Err-clause-order

@@ -22,7 +22,10 @@ records-preserved g c =
           given.gives.goes);
       counted = c.in-Ok-frame.ensures.counted ∙ ap (λ n. n + 1) before.counted ∙ sym given.gives.counted;
       few = omega (arith, given.gives.few, few_given c.next.follows.lender-at-none.reader.stage);
-      so_far = goes_on start now later _ _ _ _ _ _ _ _ _ _ _ _ c.in-Ok-frame.line before.so_far before.goes
+      so_far = goes_on (g.W.Showing.shown c.args.showing.now) start now later _ _ _ _ _ _ _ _ _ _ _ _
+          c.in-Ok-frame.line _
+          (c.show-behind.ensures ∙ ap (g.W.Showing.shown c.args.showing.now c.in-Ok-frame.line) c.bytes.ensures.octets)
+          before.so_far before.goes
           (first_left now later _ _ _ _ given)
           (λ past knows. (c.in-Ok-frame.ensures.line past knows, c.in-Ok-frame.ensures.knows past knows))
           c.frame.ensures.rows c.in-Ok-frame.ensures.opened c.in-Ok-pass_line.ensures.text;
@@ -31,7 +34,8 @@ records-preserved g c =
 
 pub returns-in_default-frame-clause-answer : goal.returns-in_default-frame-clause-answer
 returns-in_default-frame-clause-answer g c octets has =
-    wants_memory (g.F.Files.seen c.args.files.now) (g.F.Files.seen c.records.files) _ _ _ _ _ _ _ _
+    wants_memory (g.W.Showing.shown c.args.showing.now) (g.F.Files.seen c.args.files.now) (g.F.Files.seen
+        c.records.files) _ _ _ _ _ _ _ _
     c.records.invariant.so_far c.stop_without_memory.ensures.answer octets has
 
 pub returns-in_default-pass_line-clause-answer : goal.returns-in_default-pass_line-clause-answer
@@ -41,8 +45,10 @@ returns-in_default-pass_line-clause-answer g c =
     let later : Seen = g.F.Files.seen c.next.new.files in
     let given = some_given now later _ _ c.next.result c.in-Ok-Some.field-0 c.in-Ok-Some.record c.in-Ok-Some.is
     c.in-Ok-Some.field-0-is c.next.follows.holds-at-none in
-    stops_at_line (g.F.Files.seen c.args.files.now) now later _ _ _ _ c.next.follows.lender-at-none.reader _ _ _ _ _ _
-    c.in-Ok-frame.line before.so_far before.goes (first_left now later _ _ _ _ given)
+    stops_at_line (g.W.Showing.shown c.args.showing.now) (g.F.Files.seen c.args.files.now) now later _ _ _ _
+    c.next.follows.lender-at-none.reader _ _ _ _ _ _ c.in-Ok-frame.line _
+    (c.show-behind.ensures ∙ ap (g.W.Showing.shown c.args.showing.now c.in-Ok-frame.line) c.bytes.ensures.octets)
+    before.so_far before.goes (first_left now later _ _ _ _ given)
     (λ past knows. (c.in-Ok-frame.ensures.line past knows, c.in-Ok-frame.ensures.knows past knows))
     c.in-Ok-frame.ensures.opened c.in_default-pass_line.ensures.text
 
@@ -52,7 +58,8 @@ returns-in-Ok-None-clause-answer g c =
     let now : Seen = g.F.Files.seen c.records.files in
     let given = none_given now (g.F.Files.seen c.next.new.files) _ _ c.next.result c.in-Ok-None.field-0 c.in-Ok-None.is
     c.in-Ok-None.field-0-is c.next.follows.holds-at-none in
-    finishes (g.F.Files.seen c.args.files.now) now _ _ _ _ _ _ _ _ before.so_far before.goes
+    finishes (g.W.Showing.shown c.args.showing.now) (g.F.Files.seen c.args.files.now) now _ _ _ _ _ _ _ _
+        before.so_far before.goes
     (λ all has. (given.ends.none_left all has).0) c.finish.ensures.answer
 
 pub returns-in-Ok-None-clause-whole : goal.returns-in-Ok-None-clause-whole
@@ -70,7 +77,8 @@ returns-in-Err-clause-answer g c =
     let now : Seen = g.F.Files.seen c.records.files in
     let refused = fault_given now (g.F.Files.seen c.next.new.files) _ _ c.next.result c.in-Err.fault c.in-Err.is
     before.no_fault c.next.follows.holds-at-none in
-    refuses (g.F.Files.seen c.args.files.now) now (g.F.Files.seen c.next.new.files) _ _ _ _ _ _ _ _ c.in-Err.fault
+    refuses (g.W.Showing.shown c.args.showing.now) (g.F.Files.seen c.args.files.now) now (g.F.Files.seen
+        c.next.new.files) _ _ _ _ _ _ _ _ c.in-Err.fault
     before.so_far before.goes refused c.finish_frames.ensures.answer
 
 pub returns-in_default-frame-clause-told : goal.returns-in_default-frame-clause-told

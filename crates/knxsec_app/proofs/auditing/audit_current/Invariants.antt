@@ -12,7 +12,8 @@ invariant-records g l = record {
   goes : GoesOn (g.F.Files.seen l.fn.files) (g.F.Files.seen l.files) [] l.records.reader.held 0;
   counted : l.audit.total.records ≡ l.records.reader.given;
   few : l.records.reader.given ≤ most_logged;
-  so_far : SoFar (g.F.Files.seen l.fn.files) (g.F.Files.seen l.files) l.fn.tables l.audit l.records.reader l.page.held
+  so_far : SoFar (g.W.Showing.shown l.fn.showing) (g.F.Files.seen l.fn.files) (g.F.Files.seen l.files) l.fn.tables
+      l.audit l.records.reader l.page.held
       (g.S.Sink.octets l.fn.out) (g.S.Sink.octets l.out);
   kept : g.S.Sink.faults l.out ≡ g.S.Sink.faults l.fn.out;
 }

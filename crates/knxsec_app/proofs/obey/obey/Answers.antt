@@ -68,7 +68,8 @@ returns-in-AuditKeyring-clause-order g c told are =
     let new : Seen = g.F.Files.seen c.audit_by_keyring.new.files in
     subst (λ command. OpensInOrder told (files_of (Some (asked_of command))) old.places new.places)
     (sym c.in-AuditKeyring.is)
-    (c.audit_by_keyring.ensures.order told (subst (λ command. AreFiles (Some (asked_of command)) old told) c.in-AuditKeyring.is are))
+    (c.audit_by_keyring.ensures.order told (subst (λ command. AreFiles (Some (asked_of command)) old told)
+        c.in-AuditKeyring.is are))
 
 pub returns-in-Replay-clause-order : goal.returns-in-Replay-clause-order
 returns-in-Replay-clause-order g c told are =
@@ -78,3 +79,32 @@ returns-in-Replay-clause-order g c told are =
     (sym c.in-Replay.is)
     (inl (only_of old new c.in-Replay.script.now told
     (subst (λ command. AreFiles (Some (asked_of command)) old told) c.in-Replay.is are) c.replay.ensures.others))
+
+pub audit_values-requires : goal.audit_values-requires
+audit_values-requires g c = record {
+  there = λ told is. subst (λ command. AreThere (Some (asked_of command)) told) c.in-AuditValues.is
+      (c.requires.there told is);
+}
+
+pub returns-in-AuditValues-clause-answer : goal.returns-in-AuditValues-clause-answer
+returns-in-AuditValues-clause-answer g c told are =
+    subst (λ command. Answers (answer_to (Some (asked_of command)) told) c.audit_values.result
+    (g.S.Sink.octets c.args.out.now) (g.S.Sink.octets c.audit_values.new.out)) (sym c.in-AuditValues.is)
+    (c.audit_values.ensures.answer told (subst (λ command. AreFiles (Some (asked_of command))
+    (g.F.Files.seen c.args.files.now) told) c.in-AuditValues.is are))
+
+pub returns-in-AuditValues-clause-unopened : goal.returns-in-AuditValues-clause-unopened
+returns-in-AuditValues-clause-unopened g c refused told are =
+    subst (λ command. AreUnopened (Some (asked_of command)) told (g.F.Files.seen c.args.files.now)
+    (g.F.Files.seen c.audit_values.new.files)) (sym c.in-AuditValues.is)
+    (c.audit_values.ensures.unopened refused told (subst (λ command. AreFiles (Some (asked_of command))
+    (g.F.Files.seen c.args.files.now) told) c.in-AuditValues.is are))
+
+pub returns-in-AuditValues-clause-order : goal.returns-in-AuditValues-clause-order
+returns-in-AuditValues-clause-order g c told are =
+    let old : Seen = g.F.Files.seen c.args.files.now in
+    let new : Seen = g.F.Files.seen c.audit_values.new.files in
+    subst (λ command. OpensInOrder told (files_of (Some (asked_of command))) old.places new.places)
+    (sym c.in-AuditValues.is)
+    (c.audit_values.ensures.order told
+    (subst (λ command. AreFiles (Some (asked_of command)) old told) c.in-AuditValues.is are))

@@ -1,0 +1,33 @@
+use Rattle.std.proofs.Common.{rules, [], inl, inr, ◌∙◌}
+use Rattle.knx_base.specs.Files.{Seen}
+use Rattle.frame_file.specs.Records.{records_of}
+use Rattle.knxsec_app.specs.Auditing.{frames_answer}
+use Rattle.knxsec_app.specs.Commands.{octets_in}
+use Rattle.knxsec_app.specs.Showing.{values_shown}
+use Rattle.knxsec_app.specs.Values.{types_in}
+use Rattle.knxsec_app.proofs.Ordered.{only_of, reads_of}
+use Rattle.knxsec_app.proofs.Stopping.{stops_command}
+use Rattle.knxsec_app.proofs.values.audit_typed.Goals as goal
+
+pub returns-in-Err-clause-answer : goal.returns-in-Err-clause-answer
+returns-in-Err-clause-answer g c told is =
+    stops_command (types_in (octets_in told c.args.types.now))
+    (λ types. frames_answer (values_shown types) c.args.rows [] (records_of (octets_in told c.args.frames.now))) _ _ _
+    (c.in-Err.ensures.types told is)
+
+pub returns-in-Err-clause-order : goal.returns-in-Err-clause-order
+returns-in-Err-clause-order g c told is =
+    inl (only_of (g.F.Files.seen c.args.files.now) (g.F.Files.seen c.open_types.new.files) c.args.types.now told is
+    c.open_types.ensures.others)
+
+pub returns-in-Ok-clause-order : goal.returns-in-Ok-clause-order
+returns-in-Ok-clause-order g c told is =
+    let old : Seen = g.F.Files.seen c.args.files.now in
+    let mid : Seen = g.F.Files.seen c.open_types.new.files in
+    let new : Seen = g.F.Files.seen c.audit_frames.new.files in
+    inr (
+      mid.places,
+      reads_of old mid c.args.types.now told is c.open_types.ensures.others
+          (c.open_types.ensures.read (search rules) told is),
+      inl (only_of mid new c.args.frames.now told (c.open_types.ensures.told ∙ is) c.audit_frames.ensures.others),
+    )
