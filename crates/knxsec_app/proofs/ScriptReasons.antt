@@ -154,8 +154,20 @@ module _ (number : ℕ) where
 
     event_so : (kind : List ℕ) (words : List (List ℕ)) → IsTold (at_line number (event_said before settled kind words))
     event_so kind words =
-        search (either_right, set_so, send_so, tool_send_so, ask_so, deliver_so, lose_so, inject_so, off_so, on_so,
-        cut_so, fault_so) depth 16
+        search (
+          either_right,
+          set_so,
+          send_so,
+          tool_send_so,
+          ask_so,
+          deliver_so,
+          lose_so,
+          inject_so,
+          off_so,
+          on_so,
+          cut_so,
+          fault_so,
+        ) depth 16
 
     late_so : (kind : List ℕ) (words : List (List ℕ)) → IsTold (at_line number (late_said before settled kind words))
     late_so kind words = search (either_right, after, mark_so, event_so)

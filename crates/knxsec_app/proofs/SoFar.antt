@@ -98,7 +98,7 @@ pub goes_on : (shown : Behind) (start now later : Seen) (rows : List Row) (audit
     → next.rows ≡ audit.rows
     → ((past : List (List ℕ)) → Knows audit past → apdu ≡ apdu_of audit.rows past entry.octets)
     → (handed : List ℕ) × (new ≡ append_known mid handed) × (handed ++ kept ≡ held ++ line_text_with line entry.time
-        apdu behind)
+    apdu behind)
     → SoFar shown start later rows next following kept old new
 goes_on shown start now later rows audit next records following held kept old mid new entry apdu line behind is so_far
     goes taken
@@ -206,11 +206,11 @@ stops_at_line shown start now later rows audit next records following held old m
     let text : (held ++ line_text_with line entry.time apdu behind) ++ rest.report ≡ held
     ++ (frames_answer shown rows so_far.past (left now records all)).report =
     append_assoc held (line_text_with line entry.time apdu behind) rest.report ∙ ap (λ text. held ++ (text ++
-        rest.report)) is_line
+    rest.report)) is_line
     ∙ ap (λ answer. held ++ answer.report) (sym is_left) in
     answers_all shown start now rows audit records held old mid new WriteFault so_far all has
     (subst (AppendsPrefix mid new) text (prefix_more mid new (held ++ line_text_with line entry.time apdu behind)
-        rest.report begun))
+    rest.report begun))
 
 none_left : (shown : Behind) (rows : List Row) (past : List (List ℕ)) → frames_answer shown rows past no_records
     ≡ record { report = total_text (total_of rows past); status = total_status (total_of rows past) }

@@ -35,7 +35,7 @@ records-preserved g c =
 pub returns-in_default-frame-clause-answer : goal.returns-in_default-frame-clause-answer
 returns-in_default-frame-clause-answer g c octets has =
     wants_memory (g.W.Showing.shown c.args.showing.now) (g.F.Files.seen c.args.files.now) (g.F.Files.seen
-        c.records.files) _ _ _ _ _ _ _ _
+    c.records.files) _ _ _ _ _ _ _ _
     c.records.invariant.so_far c.stop_without_memory.ensures.answer octets has
 
 pub returns-in_default-pass_line-clause-answer : goal.returns-in_default-pass_line-clause-answer
@@ -59,7 +59,7 @@ returns-in-Ok-None-clause-answer g c =
     let given = none_given now (g.F.Files.seen c.next.new.files) _ _ c.next.result c.in-Ok-None.field-0 c.in-Ok-None.is
     c.in-Ok-None.field-0-is c.next.follows.holds-at-none in
     finishes (g.W.Showing.shown c.args.showing.now) (g.F.Files.seen c.args.files.now) now _ _ _ _ _ _ _ _
-        before.so_far before.goes
+    before.so_far before.goes
     (λ all has. (given.ends.none_left all has).0) c.finish.ensures.answer
 
 pub returns-in-Ok-None-clause-whole : goal.returns-in-Ok-None-clause-whole
@@ -78,7 +78,7 @@ returns-in-Err-clause-answer g c =
     let refused = fault_given now (g.F.Files.seen c.next.new.files) _ _ c.next.result c.in-Err.fault c.in-Err.is
     before.no_fault c.next.follows.holds-at-none in
     refuses (g.W.Showing.shown c.args.showing.now) (g.F.Files.seen c.args.files.now) now (g.F.Files.seen
-        c.next.new.files) _ _ _ _ _ _ _ _ c.in-Err.fault
+    c.next.new.files) _ _ _ _ _ _ _ _ c.in-Err.fault
     before.so_far before.goes refused c.finish_frames.ensures.answer
 
 pub returns-in_default-frame-clause-told : goal.returns-in_default-frame-clause-told

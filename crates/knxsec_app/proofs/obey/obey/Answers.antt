@@ -69,7 +69,7 @@ returns-in-AuditKeyring-clause-order g c told are =
     subst (λ command. OpensInOrder told (files_of (Some (asked_of command))) old.places new.places)
     (sym c.in-AuditKeyring.is)
     (c.audit_by_keyring.ensures.order told (subst (λ command. AreFiles (Some (asked_of command)) old told)
-        c.in-AuditKeyring.is are))
+    c.in-AuditKeyring.is are))
 
 pub returns-in-Replay-clause-order : goal.returns-in-Replay-clause-order
 returns-in-Replay-clause-order g c told are =
