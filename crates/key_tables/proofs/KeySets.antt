@@ -1,5 +1,5 @@
 -- A set of keys holds what was put into it, and a list of rows with one row more has one key more.
-use Rattle.std.proofs.Common.{◌≡◌, ℕ, ◌<◌, ◌+◌, ◌&&◌, ◌||◌, length, take, slice_index_or, Bool, true, false, cond, not, List, [], ◌∷◌, ◌++◌, refl, sym, ap, subst, ◌∙◌, BTreeSet}
+use Rattle.std.proofs.Common.{◌≡◌, ℕ, ◌<◌, ◌+◌, ◌&&◌, ◌||◌, length, take, slice_index_or, Bool, true, false, cond, not, Some, None, List, [], ◌∷◌, ◌++◌, refl, sym, ap, subst, ◌∙◌, BTreeSet}
 use Rattle.std.specs.Ordering.{is_eq}
 use Rattle.std.specs.List.{list_any}
 use Rattle.std.specs.BTreeSet.{contains}
@@ -9,12 +9,14 @@ use Rattle.std.proofs.lemmas.List.Folds.{list_any-append}
 use Rattle.key_tables.specs.declared.types.Row.{Row}
 use Rattle.key_tables.specs.declared.types.Row.TheVariants as row
 use Rattle.key_tables.specs.declared.types.RowKey.{RowKey}
+use Rattle.key_tables.specs.declared.faults.BuildFault.TheVariants.{Twice, TooMany}
 use Rattle.key_tables.specs.contracts.types.RowKeyOrd.TheImpl.{cmp-value}
-use Rattle.key_tables.specs.Build.{displaces, is_kept}
-use Rattle.key_tables.specs.Index.{same_key, subject_of}
+use Rattle.key_tables.specs.Build.{displaces, is_full, is_kept, is_repeated, row_fault}
+use Rattle.key_tables.specs.Index.{same_key, row_key_of, subject_of}
 use Rattle.key_tables.specs.Rows.{same_channel}
-use Rattle.key_tables.specs.Seen.{holds, Gains, HasThose, is_left}
+use Rattle.key_tables.specs.Seen.{holds, Gains, Loses, HasThose, is_left}
 use Rattle.key_tables.proofs.KeyOrder.{cmp_is, same_is_equal, same_turned}
+use Rattle.key_tables.proofs.Indexing.{repeats_is}
 
 found : (a b : RowKey) → is_eq (cmp-value.it a b) ≡ same_key a b
 found a b = ap is_eq (cmp_is a b) ∙ same_is_equal a b
@@ -35,7 +37,35 @@ one_more key before now updates other =
     ∙ (λ i. cond ((found key other ∙ same_turned key other) i) true (holds_is before other i))
     ∙ either (same_key other key) (holds before.keys other)
 
+neither : (a b : Bool) → cond a false b ≡ (not a && b)
+neither true b = refl
+neither false b = refl
+
+pub one_less : (key : RowKey) (before now : BTreeSet RowKey)
+    → ((other : RowKey) → contains cmp-value.it now other
+    ≡ cond (is_at (cmp-value.it key) other) false (contains cmp-value.it before other))
+    → Loses key before.keys now.keys
+one_less key before now updates other =
+    sym (holds_is now other) ∙ updates other
+    ∙ (λ i. cond ((found key other ∙ same_turned key other) i) false (holds_is before other i))
+    ∙ neither (same_key other key) (holds before.keys other)
+
 -- ---- beside a list of rows
+
+-- a row repeats one before it where the set holds what it is found by
+pub held_is : (rows : List Row) (seen : List RowKey) (this : Row) → HasThose row_key_of rows seen
+    → holds seen (row_key_of this) ≡ is_repeated rows this
+held_is rows seen this those =
+    those (row_key_of this) ∙ sym (λ i. list_any (λ other. repeats_is this other i) rows)
+
+-- a row whose key is new may stand where there is room
+pub may_stand : (rows : List Row) (seen : List RowKey) (this : Row) → HasThose row_key_of rows seen
+    → holds seen (row_key_of this) ≡ false → is_full rows this ≡ false
+    → row_fault rows this ≡ None
+unfolding row_fault
+may_stand rows seen this those absent room i =
+    cond ((sym (held_is rows seen this those) ∙ absent) i) (Some (Twice (length rows)))
+    (cond (room i) (Some (TooMany (length rows))) None)
 
 one_last : (a b : Bool) → (a || b) ≡ (b || (a || false))
 one_last true true = refl

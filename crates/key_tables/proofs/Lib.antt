@@ -3,8 +3,8 @@ mod Adding
 mod TextLemmas
 pub mod Unique
 pub mod KeyOrder
-mod KeySets
 mod Indexing
+mod KeySets
 mod Searching
 mod RoleLaws
 mod Looking

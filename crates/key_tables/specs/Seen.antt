@@ -1,5 +1,5 @@
 -- Plumbing: which keys a set holds, against the rows that they are of, and where a row is in an index.
-use Rattle.std.specs.Prelude.{◌≡◌, ◌||◌, ◌<◌, Bool, not, length, slice_get, List, Option, Some, None}
+use Rattle.std.specs.Prelude.{◌≡◌, ◌||◌, ◌&&◌, ◌<◌, Bool, not, length, slice_get, List, Option, Some, None}
 use Rattle.std.specs.Option.{option_map, option_or, option_and_then}
 use Rattle.std.specs.List.Sorted.{IsStrictlySortedBy}
 use Rattle.std.specs.Map.{keys_of, lookup}
@@ -23,6 +23,10 @@ holds set key = list_any (same_key key) set
 -- the set holds one key more
 abbrev pub Gains : RowKey → List RowKey → List RowKey → Type 0
 Gains key before now = (other : RowKey) → holds now other ≡ (same_key other key || holds before other)
+
+-- the set holds one key less
+abbrev pub Loses : RowKey → List RowKey → List RowKey → Type 0
+Loses key before now = (other : RowKey) → holds now other ≡ (not (same_key other key) && holds before other)
 
 -- the set holds just the keys of the rows, or what they say something of
 abbrev pub HasThose : (Row → RowKey) → List Row → List RowKey → Type 0

@@ -1,5 +1,5 @@
-ghost use Rattle.std.specs.Prelude.{◌≡◌, [], OnOk, OnErr};
-ghost use Rattle.key_tables.specs.Seen.{holds, Gains};
+ghost use Rattle.std.specs.Prelude.{◌≡◌, [], not, false, IfOk, OnOk, OnErr};
+ghost use Rattle.key_tables.specs.Seen.{holds, Gains, Loses};
 
 use crate::RowKey;
 use std::alloc::{AllocError, Global};
@@ -36,11 +36,20 @@ impl KeySet {
         self.tree.contains(key)
     }
 
-    pub(crate) fn insert(&mut self, key: RowKey) -> Result<(), AllocError>
+    // Whether the key is new.
+    pub(crate) fn insert(&mut self, key: RowKey) -> Result<bool, AllocError>
+        ensures added { IfOk result (λ added. added ≡ not (holds self.old key)) }
         ensures gains { OnOk result (Gains key self.old self.new) }
+        ensures kept { IfOk result (λ added. added ≡ false → self.new ≡ self.old) }
+        ensures absent { OnErr result (holds self.old key ≡ false) }
         ensures unchanged { OnErr result (self.new ≡ self.old) }
     {
-        self.tree.insert(key)?;
-        Ok(())
+        Ok(self.tree.insert(key)?)
+    }
+
+    pub(crate) fn remove(&mut self, key: &RowKey)
+        ensures { Loses key.now self.old self.new }
+    {
+        self.tree.remove(key);
     }
 }

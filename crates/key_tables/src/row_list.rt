@@ -1,4 +1,4 @@
-ghost use Rattle.std.specs.Prelude.{◌≡◌, ◌++◌, ◌∷◌, [], None, false, IfOk, IfErr, IsOk, OnOk, OnErr};
+ghost use Rattle.std.specs.Prelude.{◌≡◌, ◌++◌, ◌∷◌, [], Some, None, true, false, IfOk, IfErr, IsOk, OnOk, OnErr};
 ghost use Rattle.std.specs.List.{filter};
 ghost use Rattle.key_tables.specs.Build.{is_full, is_repeated, merged, row_fault, first_fault, build_fault, Adds, AreFew, IsFault, NoneTwice};
 ghost use Rattle.key_tables.specs.Index.{subject_of};
@@ -95,13 +95,10 @@ impl RowList {
         ensures memory { IfErr result (λ fault. fault ≡ BuildFault.NoMemory → row_fault self.old row ≡ None) }
         ensures unchanged { OnErr result (self.new ≡ self.old) }
     {
-        if self.is_repeated(&row) {
-            return Err(BuildFault::Twice(self.rows.len()));
-        }
         if self.is_full(&row) {
-            return Err(BuildFault::TooMany(self.rows.len()));
+            return Err(self.fault_when_full(&row));
         }
-        self.push(row)
+        self.add_new(row)
     }
 
     // Adds the rows in turn, up to the first that may not stand.
@@ -129,16 +126,21 @@ impl RowList {
         Ok(())
     }
 
-    fn push(&mut self, row: Row) -> Result<(), BuildFault>
-        requires room { is_full self.old row ≡ false }
-        requires stands { row_fault self.old row ≡ None }
-        ensures pushed { OnOk result (self.new ≡ self.old ++ row ∷ []) }
-        ensures fault { IfErr result (λ fault. fault ≡ BuildFault.NoMemory) }
+    // Adds a row for which there is room, unless one before it says the same.
+    #[tactic(auto, unfolding(crate::specs::Build::row_fault), using(crate::proofs::KeySets::held_is))]
+    fn add_new(&mut self, row: Row) -> Result<(), BuildFault>
+        requires { is_full self.old row ≡ false }
+        ensures added { OnOk result ((self.new ≡ self.old ++ row ∷ []) × (row_fault self.old row ≡ None)) }
+        ensures fault { IfErr result (λ fault. IsFault fault (row_fault self.old row)) }
+        ensures memory { IfErr result (λ fault. fault ≡ BuildFault.NoMemory → row_fault self.old row ≡ None) }
         ensures unchanged { OnErr result (self.new ≡ self.old) }
     {
-        self.rows.push(row)?;
-        if self.seen.insert(row.row_key()).is_err() {
-            self.rows.pop();
+        let key = row.row_key();
+        if !self.seen.insert(key)? {
+            return Err(BuildFault::Twice(self.rows.len()));
+        }
+        if self.rows.push(row).is_err() {
+            self.seen.remove(&key);
             return Err(BuildFault::NoMemory);
         }
         match row {
@@ -146,6 +148,19 @@ impl RowList {
             Row::Group { .. } | Row::Tool { .. } => self.keys += 1,
         }
         Ok(())
+    }
+
+    // Why a row may not stand where as many of its kind stand as may.
+    #[tactic(auto, unfolding(crate::specs::Build::row_fault))]
+    fn fault_when_full(&self, row: &Row) -> BuildFault
+        requires { is_full self.now row.now ≡ true }
+        ensures { row_fault self.now row.now ≡ Some result }
+    {
+        if self.is_repeated(row) {
+            BuildFault::Twice(self.rows.len())
+        } else {
+            BuildFault::TooMany(self.rows.len())
+        }
     }
 
     fn is_repeated(&self, row: &Row) -> bool

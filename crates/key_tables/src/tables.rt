@@ -10,7 +10,7 @@ use crate::search::find;
 use crate::{BuildFault, Channel, Level, Role, Row, RowIndex, RowKey, RowList, Steps};
 use aes_modes::Key128;
 use knx_base::{GroupAddr, IndAddr};
-use std::alloc::Global;
+use std::alloc::{AllocError, Global};
 use std::marker::Model;
 use std::sync::ledger::Ledger;
 
@@ -39,6 +39,23 @@ impl Model for Tables {
 }
 
 impl Tables {
+    /// Rows of which each was found to stand, as tables.
+    pub fn from_rows(alloc: Global, rows: RowList) -> Result<Tables, AllocError>
+        ensures rows { IfOk result (λ tables. tables ≡ rows) }
+        ensures once { IfOk result (λ tables. NoneTwice tables) }
+        ensures few { IfOk result (λ tables. AreFew tables) }
+    {
+        let keys = RowIndex::of_keys(alloc, &rows)?;
+        let roles = RowIndex::of_roles(alloc, &rows)?;
+        let expanded = keys.expanded(alloc)?;
+        Ok(Tables {
+            rows: rows.into_rows(),
+            keys,
+            roles,
+            expanded,
+        })
+    }
+
     /// The rows as tables, unless one may not stand after those before it: then the fault is that of the first such
     /// row.
     #[tactic(auto, unfolding(crate::specs::Build::build_fault))]
@@ -51,7 +68,7 @@ impl Tables {
     {
         let mut list = RowList::new(alloc);
         list.add_all(rows)?;
-        Tables::indexed(alloc, list)
+        Ok(Tables::from_rows(alloc, list)?)
     }
 
     /// The rows of `over`, and after them those key rows of `under` whose channel has no key in `over`, and those role
@@ -68,24 +85,7 @@ impl Tables {
         ensures look_ups { LookUpsMerge over.now under.now }
     {
         let list = RowList::merged(alloc, over, under)?;
-        Tables::indexed(alloc, list)
-    }
-
-    fn indexed(alloc: Global, list: RowList) -> Result<Tables, BuildFault>
-        ensures rows { IfOk result (λ tables. tables ≡ list) }
-        ensures once { IfOk result (λ tables. NoneTwice tables) }
-        ensures few { IfOk result (λ tables. AreFew tables) }
-        ensures fault { IfErr result (λ fault. fault ≡ BuildFault.NoMemory) }
-    {
-        let keys = RowIndex::of_keys(alloc, &list)?;
-        let roles = RowIndex::of_roles(alloc, &list)?;
-        let expanded = keys.expanded(alloc)?;
-        Ok(Tables {
-            rows: list.into_rows(),
-            keys,
-            roles,
-            expanded,
-        })
+        Ok(Tables::from_rows(alloc, list)?)
     }
 
     /// The key of a channel.

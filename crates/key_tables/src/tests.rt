@@ -38,8 +38,7 @@ tool 1.1.9 ffffffffffffffffffffffffffffffff
 role tool:1.1.9 1.1.1 manage";
 
 fn tables(alloc: Global, text: &[u8]) -> Result<Tables, Fail> {
-    let rows = read_tables(alloc, text)?;
-    Ok(Tables::build(alloc, rows.as_slice())?)
+    Ok(Tables::from_rows(alloc, read_tables(alloc, text)?)?)
 }
 
 #[test]

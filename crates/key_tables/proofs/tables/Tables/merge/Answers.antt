@@ -13,3 +13,6 @@ returns-in_err-list-clause-look_ups c = look_ups_merge c.args.over.now c.args.un
 
 pub returns-clause-look_ups : goal.returns-clause-look_ups
 returns-clause-look_ups c = look_ups_merge c.args.over.now c.args.under.now
+
+pub returns-in_err-from_rows-clause-look_ups : goal.returns-in_err-from_rows-clause-look_ups
+returns-in_err-from_rows-clause-look_ups c = look_ups_merge c.args.over.now c.args.under.now
