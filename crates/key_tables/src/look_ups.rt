@@ -108,7 +108,7 @@ fn own_role(channel: Channel, sender: IndAddr) -> Option<Role>
     }
 }
 
-// The same, where nobody counts.
+// The role of a sender on a channel, where nobody counts.
 pub(crate) fn role_in(roles: &RowIndex, channel: Channel, sender: IndAddr) -> Option<Role>
     ensures { result ≡ role_in roles.now channel sender }
 {

@@ -69,7 +69,8 @@ impl RowIndex {
         self.entries.len()
     }
 
-    /// How the key of the row at a place stands to the one that is wanted, which is one step. Only so is a row's key seen.
+    /// How the key of the row at a place stands to the one that is wanted, which is one step. A row's key is seen in no
+    /// other way.
     pub fn compare_at<L: Ledger>(
         &self,
         place: usize,
