@@ -1,10 +1,8 @@
 -- Keys in their order: the order of the type is the one of the rules, and keys are the same where neither comes before
 -- the other.
-use Rattle.std.proofs.Common.{◌≡◌, ℕ, ◌&&◌, Bool, true, false, cond, nat_lt, Ordering, Less, Equal, Greater, arith, Option, Some, None, refl, sym, ap, ◌∙◌}
-use Rattle.std.specs.Prelude.{◌==◌}
+use Rattle.std.proofs.Common.{◌≡◌, ◌&&◌, Bool, true, false, Equal, Option, Some, None, refl, sym, ap, ◌∙◌}
 use Rattle.std.specs.Cmp.{IsTotalOrder, IsEquivalence}
-use Rattle.std.specs.Ordering.{nat_cmp, ordering_then, ordering_reverse, is_eq}
-use Rattle.std.proofs.lemmas.Bool.Decides.{nat_tests}
+use Rattle.std.specs.Ordering.{ordering_then, ordering_reverse, is_eq}
 use Rattle.knx_base.specs.declared.address.IndAddr.{IndAddr}
 use Rattle.key_tables.specs.declared.types.Channel.{Channel}
 use Rattle.key_tables.specs.declared.types.Channel.TheVariants as channel
@@ -14,6 +12,7 @@ use Rattle.key_tables.specs.contracts.types.RowKeyOrd.TheImpl.{cmp-value}
 use Rattle.key_tables.specs.contracts.types.RowKeyOrd.TheImpl.Laws.{total-law}
 use Rattle.key_tables.specs.Rows.{same_channel, same_sender}
 use Rattle.key_tables.specs.Index.{same_key, channel_cmp, sender_cmp, key_cmp}
+use Rattle.key_tables.proofs.LaneOrder.{numbers_equal, then_equal, is_itself}
 use Rattle.key_tables.proofs.Unique.{both_true, same_is, sender_is}
 
 then_cmp : (a b : Channel) (from other : Option IndAddr)
@@ -49,20 +48,6 @@ total = record {
   congr = λ x y z equal. sym (cmp_is x z) ∙ total-law.congr x y z (cmp_is x y ∙ equal) ∙ cmp_is y z;
 }
 
-equal_where : (less equal : Bool) → (less ≡ true → equal ≡ false)
-    → is_eq (cond less Less (cond equal Equal Greater)) ≡ equal
-equal_where true equal apart = sym (apart refl)
-equal_where false true apart = refl
-equal_where false false apart = refl
-
-numbers_equal : (a b : ℕ) → is_eq (nat_cmp a b) ≡ (a == b)
-numbers_equal a b = equal_where (nat_lt a b) (a == b) (λ less. grind (arith, nat_tests, less))
-
-then_equal : (first second : Ordering) → is_eq (ordering_then first second) ≡ (is_eq first && is_eq second)
-then_equal Less second = refl
-then_equal Equal second = refl
-then_equal Greater second = refl
-
 channels_equal : (a b : Channel) → is_eq (channel_cmp a b) ≡ same_channel a b
 channels_equal (channel.Group a) (channel.Group b) = numbers_equal a.0 b.0
 channels_equal (channel.Group _) (channel.Tool _) = refl
@@ -94,11 +79,6 @@ same_key-is (under.Role a from) (under.Role b other) same =
 
 pub equal_is : (a b : RowKey) → key_cmp a b ≡ Equal → a ≡ b
 equal_is a b equal = same_key-is a b (sym (same_is_equal a b) ∙ ap is_eq equal)
-
-is_itself : (o : Ordering) → o ≡ ordering_reverse o → o ≡ Equal
-is_itself Less back = absurd cc
-is_itself Equal back = refl
-is_itself Greater back = absurd cc
 
 pub same_itself : (a : RowKey) → same_key a a ≡ true
 same_itself a = sym (same_is_equal a a) ∙ ap is_eq (is_itself (key_cmp a a) (total.antisymm a a))

@@ -49,10 +49,10 @@ equal_where true equal apart = sym (apart refl)
 equal_where false true apart = refl
 equal_where false false apart = refl
 
-numbers_equal : (a b : ℕ) → is_eq (nat_cmp a b) ≡ (a == b)
+pub numbers_equal : (a b : ℕ) → is_eq (nat_cmp a b) ≡ (a == b)
 numbers_equal a b = equal_where (nat_lt a b) (a == b) (λ less. grind (arith, nat_tests, less))
 
-then_equal : (first second : Ordering) → is_eq (ordering_then first second) ≡ (is_eq first && is_eq second)
+pub then_equal : (first second : Ordering) → is_eq (ordering_then first second) ≡ (is_eq first && is_eq second)
 then_equal Less second = refl
 then_equal Equal second = refl
 then_equal Greater second = refl
@@ -79,7 +79,7 @@ same_lane-is (lane.Tool a s) (lane.Tool b t) same =
 equal_is : (a b : Lane) → lane_cmp a b ≡ Equal → a ≡ b
 equal_is a b equal = same_lane-is a b (sym (same_is_equal a b) ∙ ap is_eq equal)
 
-is_itself : (o : Ordering) → o ≡ ordering_reverse o → o ≡ Equal
+pub is_itself : (o : Ordering) → o ≡ ordering_reverse o → o ≡ Equal
 is_itself Less back = absurd cc
 is_itself Equal back = refl
 is_itself Greater back = absurd cc

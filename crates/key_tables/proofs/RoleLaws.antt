@@ -10,7 +10,8 @@ use Rattle.key_tables.specs.Build.{build_fault}
 use Rattle.key_tables.specs.Rows.{is_role_row, row_role, is_own, device_role, has_role, EachSays, named_role, role_of}
 use Rattle.key_tables.proofs.Unique.{named_where, each_role, role_row_has_role}
 
-some_of : {A : Type 0} (a b c : Option A) → is_some (option_or a (option_or b c)) ≡ (is_some a || is_some b || is_some c)
+some_of : {A : Type 0} (a b c : Option A)
+    → is_some (option_or a (option_or b c)) ≡ (is_some a || is_some b || is_some c)
 some_of (Some x) b c = refl
 some_of None (Some y) c = refl
 some_of None None c = refl
@@ -28,7 +29,8 @@ pub role_where : (rows : List Row) (channel : Channel) (sender : IndAddr)
 unfolding role_of
 role_where rows channel sender =
     some_of (named_role rows channel (Some sender)) (named_role rows channel None) (device_role channel sender)
-    ∙ (λ i. named_where rows channel (Some sender) i || named_where rows channel None i || device_where channel sender i)
+    ∙ (λ i. named_where rows channel (Some sender) i || named_where rows channel None i
+    || device_where channel sender i)
 
 first_stays : {A : Type 0} (a b : Option A) → is_some a ≡ true → option_or a b ≡ a
 first_stays (Some x) b some = refl
@@ -39,7 +41,8 @@ is_none None none = refl
 is_none (Some x) none = absurd cc
 
 -- the row's role, and nothing after it
-its_row : (rows : List Row) (channel : Channel) (sender : Option IndAddr) (other : Option Role) → build_fault rows ≡ None
+its_row : (rows : List Row) (channel : Channel) (sender : Option IndAddr) (other : Option Role)
+    → build_fault rows ≡ None
     → EachSays rows (is_role_row channel sender) row_role (option_or (named_role rows channel sender) other)
 its_row rows channel sender other stand row there is =
     ap (λ role. option_or role other) (each_role rows channel sender stand row there is)

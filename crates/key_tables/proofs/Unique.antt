@@ -38,7 +38,8 @@ key_row_has_level channel (row.Group _ _ _) h = refl
 key_row_has_level channel (row.Tool _ _) h = refl
 key_row_has_level channel (row.Role _ _ _) h = absurd cc
 
-pub role_row_has_role : (channel : Channel) (sender : Option IndAddr) (row : Row) → is_role_row channel sender row ≡ true
+pub role_row_has_role : (channel : Channel) (sender : Option IndAddr) (row : Row)
+    → is_role_row channel sender row ≡ true
     → is_some (row_role row) ≡ true
 role_row_has_role channel sender (row.Group _ _ _) h = absurd cc
 role_row_has_role channel sender (row.Tool _ _) h = absurd cc

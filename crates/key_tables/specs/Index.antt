@@ -114,7 +114,8 @@ pub record AreIndexed (rows : List Row) (keys roles : List (RowKey × RowValue))
 
 -- ---- steps
 
--- So many searches among so many rows were taken: in each at most s comparisons, with 2^s at most twice the rows and one.
+-- So many searches among so many rows were taken. Each took at most s comparisons, where 2^s is at most twice the rows
+-- and one.
 pub record AddsSteps (searches rows before now : ℕ) : Type 0 where
   pub each : ℕ
   pub few : 2 ^ each ≤ 2 * rows + 1

@@ -37,4 +37,5 @@ returns-clause-place g c =
 
 pub returns-in-Equal-clause-place : goal.returns-in-Equal-clause-place
 returns-in-Equal-clause-place g c =
-    stands _ _ c.search.low c.search.high _ c.search.invariant.0 (omega (arith, c.search-test.true, c.search.invariant.0.within)) c.in-Equal.ensures.compared
+    stands _ _ c.search.low c.search.high _ c.search.invariant.0
+    (omega (arith, c.search-test.true, c.search.invariant.0.within)) c.in-Equal.ensures.compared

@@ -16,7 +16,8 @@ returns c =
     let kept = subst (λ rows. AreIndexed rows c.self.inside.keys c.self.inside.roles c.self.inside.expanded.items)
     c.self.view_is c.self.invariant
     in
-    let says = expanded_says c.args.self.now c.self.inside.keys c.self.inside.expanded.items c.args.channel c.in_ok-place.place kept.keys_are kept.expanded_are
+    let says = expanded_says c.args.self.now c.self.inside.keys c.self.inside.expanded.items c.args.channel
+    c.in_ok-place.place kept.keys_are kept.expanded_are
     c.in_ok-place.ensures
     in
     record { key = search (rules, says) }
