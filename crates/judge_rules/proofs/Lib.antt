@@ -1,5 +1,6 @@
 pub mod Names
 pub mod Failing
+pub mod Entering
 pub mod Judging
 pub mod Channels
 pub mod Keeping

@@ -1,39 +1,56 @@
-ghost use Rattle.std.specs.Prelude.{◌≡◌, ◌≤◌, ◌%◌, ◌/◌, ◌==◌, length, slice_index, [], ◌∷◌, Some, None};
+ghost use Rattle.std.specs.Prelude.{◌≡◌, ◌≤◌, length, Some};
 ghost use Rattle.cemi_frames.specs.Frames.{telegram};
-ghost use Rattle.secure_apdu.specs.Secure.{HasParts};
-ghost use Rattle.judge_rules.specs.Parts.{bits_in, service_in};
-ghost use Rattle.judge_rules.specs.Checks.{data_checks, first_failing, check_stale, check_level, check_role, check_upper, check_service, needed_role, is_service_on, is_group_service, is_tool_service, is_response};
+ghost use Rattle.plain_apdu.specs.Service as services;
+ghost use Rattle.key_tables.specs.Rows.{role_of};
+ghost use Rattle.judge_rules.specs.Parts.{field_in, source_of, bits_in, service_in};
+ghost use Rattle.judge_rules.specs.Checks.{data_checks, first_failing, check_stale, check_level, unless_enough, check_upper, check_service, needed_role, is_service_on, is_group_service, is_tool_service, is_response};
 
-use crate::entry::Entry;
+use crate::entered::Entered;
 use crate::{BadService, Verdict};
-use cemi_frames::Frame;
-use key_tables::{Channel, Level, Role, Tables};
-use knx_base::{IndAddr, Number48};
+use key_tables::{Channel, Level, Role};
+use knx_base::Number48;
 use plain_apdu::{Service, service_of};
 
-/// The checks of data alone: its number, level, role and service.
-pub(crate) fn data_refusal(
-    tables: &Tables,
-    kept: Number48,
-    frame: &Frame<'_>,
-    entry: &Entry<'_, '_>,
-    apdu: &[u8],
-) -> Option<Verdict>
-    requires parts { HasParts frame.now.content.now entry.now.secure.field entry.now.secure.shown
-        entry.now.secure.body.now }
-    requires two { 2 ≤ length apdu.now }
-    ensures { result ≡ first_failing (data_checks tables.now kept entry.now.number entry.now.channel
-        (telegram frame.now) apdu.now) }
-{
-    match stale_refusal(kept, entry.number) {
-        Some(verdict) => Some(verdict),
-        None => level_or_right_refusal(
-            tables,
-            entry.channel,
-            entry.secure.field,
-            frame.source,
-            apdu,
-        ),
+impl Entered<'_, '_> {
+    /// The checks of data alone, in their order: number, level, role and service.
+    pub(crate) fn data_refusal(
+        &self,
+        kept: Number48,
+        number: Number48,
+        role: Role,
+        apdu: &[u8],
+    ) -> Option<Verdict>
+        requires role { role_of self.now.tables.now self.now.channel (source_of (telegram self.now.frame)) ≡ Some role }
+        requires two { 2 ≤ length apdu.now }
+        ensures { result ≡ first_failing (data_checks self.now.tables.now kept number self.now.channel
+            (telegram self.now.frame) apdu.now) }
+    {
+        let bits = bits_in(apdu);
+        let service = service_of(bits);
+        if let Some(verdict) = stale_refusal(kept, number) {
+            return Some(verdict);
+        }
+        if let Some(verdict) = self.level_refusal() {
+            return Some(verdict);
+        }
+        if let Some(verdict) = role_refusal(self.channel, role, service) {
+            return Some(verdict);
+        }
+        if let Some(verdict) = upper_refusal(apdu[0]) {
+            return Some(verdict);
+        }
+        service_refusal(self.channel, service, bits)
+    }
+
+    // The APDU is encrypted where it should be.
+    fn level_refusal(&self) -> Option<Verdict>
+        ensures { result ≡ check_level self.now.tables.now self.now.channel (field_in (telegram self.now.frame)) }
+    {
+        if !self.is_encrypted() && self.tables.level(self.channel) == Some(Level::Conf) {
+            Some(Verdict::Level)
+        } else {
+            None
+        }
     }
 }
 
@@ -47,61 +64,38 @@ fn stale_refusal(kept: Number48, got: Number48) -> Option<Verdict>
     }
 }
 
-fn level_or_right_refusal(
-    tables: &Tables,
-    channel: Channel,
-    field: u8,
-    source: IndAddr,
-    apdu: &[u8],
-) -> Option<Verdict>
-    requires two { 2 ≤ length apdu.now }
-    ensures { result ≡ first_failing (check_level tables.now channel field
-        ∷ check_role tables.now channel source (service_in apdu.now)
-        ∷ check_upper (slice_index apdu.now 0) ∷ check_service channel (bits_in apdu.now) ∷ []) }
-{
-    match level_refusal(tables, channel, field) {
-        Some(verdict) => Some(verdict),
-        None => right_refusal(tables, channel, source, apdu),
-    }
-}
-
-// The APDU is encrypted where it should be.
-fn level_refusal(tables: &Tables, channel: Channel, field: u8) -> Option<Verdict>
-    ensures { result ≡ check_level tables.now channel field }
-{
-    if tables.level(channel) == Some(Level::Conf) && field >> 4 & 0x07 == 0 {
-        Some(Verdict::Level)
-    } else {
-        None
-    }
-}
-
-// The sender's role is enough for the service, and the service is one of the channel's.
-fn right_refusal(tables: &Tables, channel: Channel, source: IndAddr, apdu: &[u8]) -> Option<Verdict>
-    requires two { 2 ≤ length apdu.now }
-    ensures { result ≡ first_failing (check_role tables.now channel source (service_in apdu.now)
-        ∷ check_upper (slice_index apdu.now 0) ∷ check_service channel (bits_in apdu.now) ∷ []) }
-{
-    match role_refusal(tables, channel, source, service_in(apdu)) {
-        Some(verdict) => Some(verdict),
-        None => service_refusal(channel, apdu),
-    }
-}
-
-fn role_refusal(
-    tables: &Tables,
-    channel: Channel,
-    source: IndAddr,
-    service: Service,
-) -> Option<Verdict>
-    ensures { result ≡ check_role tables.now channel source service }
+// The sender's role is enough for the service.
+fn role_refusal(channel: Channel, has: Role, service: Service) -> Option<Verdict>
+    ensures { result ≡ unless_enough (needed_role channel service) (Some has) }
 {
     let needs = needed_role(channel, service);
-    let has = tables.role(channel, source)?;
     if has.is_enough_for(needs) {
         None
     } else {
         Some(Verdict::Role { needs, has })
+    }
+}
+
+// The upper six bits of the first octet are zero.
+fn upper_refusal(first: u8) -> Option<Verdict>
+    ensures { result ≡ check_upper first }
+{
+    if first > 3 {
+        Some(Verdict::Service(BadService::UpperBits(first)))
+    } else {
+        None
+    }
+}
+
+// The service, which these bits say, is one of the channel's.
+fn service_refusal(channel: Channel, service: Service, bits: u16) -> Option<Verdict>
+    requires { service ≡ services.service_of bits }
+    ensures { result ≡ check_service channel bits }
+{
+    if is_service_on(channel, service) {
+        None
+    } else {
+        Some(Verdict::Service(BadService::Code(bits)))
     }
 }
 
@@ -126,23 +120,6 @@ fn is_response(service: Service) -> bool
             | Service::DeviceDescriptorResponse
             | Service::PropertyValueResponse
     )
-}
-
-// The upper six bits of the first octet are zero, and the service is one of the channel's.
-fn service_refusal(channel: Channel, apdu: &[u8]) -> Option<Verdict>
-    requires two { 2 ≤ length apdu.now }
-    ensures { result ≡ first_failing (check_upper (slice_index apdu.now 0) ∷ check_service channel (bits_in apdu.now)
-        ∷ []) }
-{
-    if apdu[0] > 3 {
-        return Some(Verdict::Service(BadService::UpperBits(apdu[0])));
-    }
-    let bits = bits_in(apdu);
-    if is_service_on(channel, service_of(bits)) {
-        None
-    } else {
-        Some(Verdict::Service(BadService::Code(bits)))
-    }
 }
 
 fn is_service_on(channel: Channel, service: Service) -> bool

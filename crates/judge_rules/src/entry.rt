@@ -1,76 +1,116 @@
-ghost use Rattle.std.specs.Prelude.{◌≡◌, ◌/◌, ◌%◌, ◌==◌, [], ◌∷◌, false, Some, None, MatchResult, MatchOption, OnOk, IfOk, IfErr};
-ghost use Rattle.cemi_frames.specs.Frames.{Telegram, telegram};
+ghost use Rattle.std.specs.Prelude.{◌≡◌, ◌<◌, ◌≤◌, ◌/◌, ◌%◌, ◌==◌, [], ◌∷◌, length, true, false, Some, None, MatchResult, MatchOption, OnOk, IfSome, IfOk, IfErr};
+ghost use Rattle.std.specs.Option.{option_or};
+ghost use Rattle.cemi_frames.specs.Frames.{telegram};
 ghost use Rattle.secure_apdu.specs.Secure.{is_secure, bad_secure, HasParts};
-ghost use Rattle.key_tables.specs.Rows.{key_of};
-ghost use Rattle.judge_rules.specs.Parts.{is_group, field_in, shown_in, number_in, channel_in};
-ghost use Rattle.judge_rules.specs.Checks.{check_control, check_plain, check_pending, plain_service, secure_checks, lane_checks, lane_in, entry_checks, first_failing, is_good};
+ghost use Rattle.key_tables.specs.Rows.{key_of, keyed};
+ghost use Rattle.judge_rules.specs.Parts.{field_in, channel_in};
+ghost use Rattle.judge_rules.specs.Checks.{check_control, check_plain, plain_service, secure_checks, lane_in, first_failing, verdict_of, kept_by, opened_by, is_ask, is_good, IsEntitled};
+ghost use Rattle.judge_rules.specs.Entry.{Entering};
+ghost use Rattle.judge_rules.specs.Seen.{seen};
 
-use crate::Verdict;
+use crate::entered::{Entered, Refused};
+use crate::judgement::refused;
+use crate::{Judgement, Verdict};
 use aes_modes::Key128;
 use cemi_frames::Frame;
 use key_tables::{Channel, Lane, Tables};
-use knx_base::Number48;
+use knx_base::{GroupAddr, IndAddr, Number48};
 use plain_apdu::{Service, Tpci, service_of};
-use secure_apdu::{Secure, is_secure, read_secure, xor_number};
+use secure_apdu::{ApduBuf, Secure, is_secure, read_secure};
+use std::marker::Model;
 
-/// The service bits of the control field of an answer of a synchronisation.
-pub(crate) const ANSWER: u8 = 3;
-
-/// Those of a request of a synchronisation.
-pub(crate) const REQUEST: u8 = 2;
-
-/// Those of data.
-pub(crate) const DATA: u8 = 0;
-
-/// A secure frame of a channel: the key, and the number under which it is to open.
-#[derive(Clone, Copy)]
-pub(crate) struct Entry<'f, 't> {
-    pub(crate) secure: Secure<'f>,
-    pub(crate) channel: Channel,
-    pub(crate) key: &'t Key128,
-    pub(crate) number: Number48,
+/// What a first look at a frame found: its parts and its channel with the key, or the check that it fails. It is judged
+/// under the mark of its lane without another look.
+#[derive(Drop)]
+pub struct Entry<'f, 't> {
+    found: Result<Entered<'f, 't>, Refused<'f, 't>>,
 }
 
-impl Entry<'_, '_> {
-    pub(crate) fn service(&self) -> u8
-        ensures { result ≡ self.now.secure.field % 8 }
+impl<'f, 't> Model for Entry<'f, 't> {
+    ghost use Rattle.judge_rules.specs.Entry.{Entering};
+    ghost use Rattle.judge_rules.specs.Seen.{seen};
+
+    ghost Value = { Entering };
+
+    ghost view = { λ entry. seen entry.found };
+}
+
+impl<'f, 't> Entry<'f, 't> {
+    /// Looks at a frame.
+    pub fn enter(tables: &'t Tables, frame: &Frame<'f>) -> Entry<'f, 't>
+        ensures rows { result.rows ≡ tables.now }
+        ensures telegram { result.telegram ≡ telegram frame.now }
     {
-        self.secure.field & 0x07
+        Entry {
+            found: look(tables, frame),
+        }
+    }
+
+    /// Where a receiver keeps the number of the frame: None where it is not secure, out of form, or without a key.
+    #[tactic(auto, unfolding(crate::specs::Checks::lane_in))]
+    pub fn lane(&self) -> Option<Lane>
+        ensures lane { result ≡ lane_in self.now.rows self.now.telegram }
+    {
+        match &self.found {
+            Ok(entered) => Some(entered.lane()),
+            Err(_) => None,
+        }
+    }
+
+    /// Judges the frame under the mark of its lane, and the challenge that is open or none. Where the code is right
+    /// `apdu` has the APDU that was opened; else it is empty.
+    #[tactic(auto, unfolding(crate::specs::Checks::verdict_of, crate::specs::Checks::kept_by, crate::specs::Checks::opened_by))]
+    pub fn judge(&self, kept: Number48, asked: Option<[u8; 6]>, apdu: &mut ApduBuf) -> Judgement
+        ensures verdict { result.verdict ≡ verdict_of self.now.rows kept asked self.now.telegram }
+        ensures keeps { result.keeps ≡ kept_by self.now.rows kept asked self.now.telegram }
+        ensures lane { IfSome result.keeps (λ keeps. lane_in self.now.rows self.now.telegram ≡ Some keeps.0) }
+        ensures above { IfSome result.keeps (λ keeps. kept < keeps.1) }
+        ensures ask_keeps_nothing { is_ask result.verdict ≡ true → result.keeps ≡ None }
+        ensures opened { apdu.new ≡ opened_by self.now.rows asked self.now.telegram }
+        ensures entitled { is_good result.verdict ≡ true → IsEntitled self.now.rows self.now.telegram }
+        ensures two { is_good result.verdict ≡ true → 2 ≤ length apdu.new }
+    {
+        apdu.clear();
+        match &self.found {
+            Ok(entered) => entered.judge(kept, asked, apdu),
+            Err(found) => refused(found.verdict),
+        }
     }
 }
 
 /// Where a receiver keeps the number of a frame: None where it is not secure, out of form, or without a key.
-#[tactic(auto, unfolding(crate::specs::Checks::lane_in))]
 pub fn lane_of(tables: &Tables, frame: &Frame<'_>) -> Option<Lane>
     ensures lane { result ≡ lane_in tables.now (telegram frame.now) }
 {
-    match keyed(tables, frame) {
-        Ok((_, channel, _)) => Some(channel.lane(frame.source)),
-        Err(_) => None,
-    }
+    Entry::enter(tables, frame).lane()
 }
 
-// The parts of a secure frame, its channel, and the key of that.
-fn keyed<'f, 't>(
-    tables: &'t Tables,
-    frame: &Frame<'f>,
-) -> Result<(Secure<'f>, Channel, &'t Key128), Verdict>
-    ensures found { MatchResult result
-        (λ found. (first_failing (lane_checks tables.now (telegram frame.now)) ≡ None)
-        × HasParts frame.now.content.now found.0.field found.0.shown found.0.body.now
-        × (bad_secure frame.now.content.now (frame.now.control2 / 128 % 2 == 1) ≡ None)
-        × (channel_in tables.now (telegram frame.now) ≡ Some found.1)
-        × (key_of tables.now found.1 ≡ Some found.2.now))
-        (λ verdict. first_failing (lane_checks tables.now (telegram frame.now)) ≡ Some verdict) }
-    ensures bad { IfErr result (λ verdict. is_good verdict ≡ false) }
+fn look<'f, 't>(tables: &'t Tables, frame: &Frame<'f>) -> Result<Entered<'f, 't>, Refused<'f, 't>>
+    ensures { seen result ≡ record { rows = tables.now; telegram = telegram frame.now } }
 {
     let secure = match secure_parts(frame) {
         Ok(secure) => secure,
-        Err(verdict) => return Err(verdict),
+        Err(verdict) => {
+            return Err(Refused {
+                tables,
+                frame: *frame,
+                verdict,
+            });
+        }
     };
     match keyed_channel(tables, frame, secure.field) {
-        Some((channel, key)) => Ok((secure, channel, key)),
-        None => Err(Verdict::NoKey),
+        Some((channel, key)) => Ok(Entered {
+            tables,
+            frame: *frame,
+            secure,
+            channel,
+            key,
+        }),
+        None => Err(Refused {
+            tables,
+            frame: *frame,
+            verdict: Verdict::NoKey,
+        }),
     }
 }
 
@@ -92,7 +132,8 @@ pub fn secure_parts<'a>(frame: &Frame<'a>) -> Result<Secure<'a>, Verdict>
     }
 }
 
-// The channel of a frame, and its key.
+// The channel of a frame with this control field, and its key.
+#[tactic(auto, unfolding(crate::specs::Parts::channel_in, key_tables::specs::Rows::channel_of))]
 fn keyed_channel<'t>(
     tables: &'t Tables,
     frame: &Frame<'_>,
@@ -104,66 +145,38 @@ fn keyed_channel<'t>(
         (λ found. (channel_in tables.now (telegram frame.now) ≡ Some found.0)
         × (key_of tables.now found.0 ≡ Some found.1.now)) }
 {
-    let channel = channel_of(tables, frame, field)?;
-    let key = tables.expanded_key(channel)?;
-    Some((channel, key))
+    match (frame.is_group(), field >> 7 == 1) {
+        (true, false) => with_key(tables, Channel::Group(GroupAddr(frame.destination))),
+        (false, true) => tool_channel(tables, frame.source, IndAddr(frame.destination)),
+        _ => None,
+    }
 }
 
-#[tactic(auto, unfolding(crate::specs::Parts::channel_in))]
-fn channel_of(tables: &Tables, frame: &Frame<'_>, field: u8) -> Option<Channel>
-    requires { field ≡ field_in (telegram frame.now) }
-    ensures { result ≡ channel_in tables.now (telegram frame.now) }
-{
-    tables.channel_of(
-        frame.is_group(),
-        field >> 7 == 1,
-        frame.source,
-        frame.destination,
-    )
-}
-
-/// The checks before the code is looked at.
-pub(crate) fn enter<'f, 't>(
+// The channel of the destination where that has a key, else the source's.
+fn tool_channel<'t>(
     tables: &'t Tables,
-    asked: Option<[u8; 6]>,
-    frame: &Frame<'f>,
-) -> Result<Entry<'f, 't>, Verdict>
-    ensures entry { MatchResult result
-        (λ entry. (first_failing (entry_checks tables.now asked (telegram frame.now)) ≡ None)
-        × HasParts frame.now.content.now entry.secure.field entry.secure.shown entry.secure.body.now
-        × (bad_secure frame.now.content.now (frame.now.control2 / 128 % 2 == 1) ≡ None)
-        × (channel_in tables.now (telegram frame.now) ≡ Some entry.channel)
-        × (key_of tables.now entry.channel ≡ Some entry.key.now)
-        × (entry.number ≡ number_in asked (telegram frame.now)))
-        (λ verdict. first_failing (entry_checks tables.now asked (telegram frame.now)) ≡ Some verdict) }
-    ensures bad { IfErr result (λ verdict. is_good verdict ≡ false) }
+    source: IndAddr,
+    destination: IndAddr,
+) -> Option<(Channel, &'t Key128)>
+    ensures { MatchOption result
+        (option_or (keyed tables.now (Channel.Tool destination)) (keyed tables.now (Channel.Tool source)) ≡ None)
+        (λ found. (option_or (keyed tables.now (Channel.Tool destination)) (keyed tables.now (Channel.Tool source))
+        ≡ Some found.0)
+        × (key_of tables.now found.0 ≡ Some found.1.now)) }
 {
-    let (secure, channel, key) = match keyed(tables, frame) {
-        Ok(found) => found,
-        Err(verdict) => return Err(verdict),
-    };
-    match nonce_number(&secure, asked) {
-        Some(number) => Ok(Entry {
-            secure,
-            channel,
-            key,
-            number,
-        }),
-        None => Err(Verdict::NoPending),
+    match with_key(tables, Channel::Tool(destination)) {
+        Some(found) => Some(found),
+        None => with_key(tables, Channel::Tool(source)),
     }
 }
 
-// The number under which a frame was sealed; None for an answer where no challenge is open.
-fn nonce_number(secure: &Secure<'_>, asked: Option<[u8; 6]>) -> Option<Number48>
-    ensures { (t : Telegram) → secure.now.field ≡ field_in t → secure.now.shown ≡ shown_in t → MatchOption result
-        (check_pending asked t ≡ Some Verdict.NoPending)
-        (λ number. (check_pending asked t ≡ None) × (number ≡ number_in asked t)) }
+fn with_key(tables: &Tables, channel: Channel) -> Option<(Channel, &Key128)>
+    ensures { MatchOption result
+        (keyed tables.now channel ≡ None)
+        (λ found. (keyed tables.now channel ≡ Some found.0) × (key_of tables.now found.0 ≡ Some found.1.now)) }
 {
-    if secure.field & 0x07 != ANSWER {
-        return Some(secure.shown);
-    }
-    match asked {
-        Some(challenge) => Some(xor_number(challenge, secure.shown)),
+    match tables.expanded_key(channel) {
+        Some(key) => Some((channel, key)),
         None => None,
     }
 }

@@ -4,6 +4,7 @@
 
 mod alarm;
 mod data;
+mod entered;
 mod entry;
 mod judgement;
 mod node_lanes;
@@ -13,7 +14,7 @@ mod text;
 mod verdict;
 
 pub use alarm::is_alarm;
-pub use entry::{lane_of, secure_parts};
+pub use entry::{Entry, lane_of, secure_parts};
 pub use judgement::judge;
 pub use node_lanes::nodes_keep_on_their_lanes;
 pub use text::{print_octets, put_verdict, write_verdict};
