@@ -10,7 +10,7 @@ ghost use Rattle.audit_core.specs.State.{raised, noted};
 use crate::past::Past;
 use crate::{Addresses, Line};
 use cemi_frames::{Frame, NotFrame, read_frame};
-use judge_rules::{Verdict, is_alarm, judge};
+use judge_rules::{Entry, Verdict, is_alarm};
 use key_tables::Tables;
 use knx_base::NoMemory;
 use secure_apdu::ApduBuf;
@@ -61,10 +61,10 @@ fn judge_frame(
     ensures unchanged { OnErr result (past.new ≡ past.old) }
     ensures apdu_stays { OnErr result (apdu.new ≡ apdu.old) }
 {
-    let mark = past.mark(tables, frame);
-    let asked = past.asked(frame);
+    let entry = Entry::enter(tables, frame);
+    let mark = past.mark(entry.lane());
     let mut opened = ApduBuf::new();
-    let judgement = judge(tables, mark, asked, frame, &mut opened);
+    let judgement = entry.judge(mark, past.asked(frame), &mut opened);
     past.take(frame, &judgement)?;
     *apdu = opened;
     Ok(telegram_line(tables, index, frame, judgement.verdict))

@@ -2,7 +2,7 @@ ghost use Rattle.std.specs.Prelude.{◌≡◌, [], IsOk, OnOk, OnErr, true, None
 ghost use Rattle.cemi_frames.specs.Frames.{telegram};
 ghost use Rattle.key_tables.specs.declared.types.Lane.{Lane};
 ghost use Rattle.judge_rules.specs.Parts.{source_of};
-ghost use Rattle.judge_rules.specs.Checks.{lane_in, is_ask};
+ghost use Rattle.judge_rules.specs.Checks.{is_ask};
 ghost use Rattle.sync_service.specs.Open.{asked_in, nobody_asked, with_pair};
 ghost use Rattle.audit_core.specs.Audit.{mark_under, asked_under, receiver_of};
 ghost use Rattle.audit_core.specs.Marks.{mark_in};
@@ -10,8 +10,8 @@ ghost use Rattle.audit_core.specs.State.{raised, exchanged};
 
 use crate::marks::Marks;
 use cemi_frames::Frame;
-use judge_rules::{Judgement, Verdict, lane_of};
-use key_tables::{Lane, Tables};
+use judge_rules::{Judgement, Verdict};
+use key_tables::Lane;
 use knx_base::{IndAddr, NoMemory, Number48};
 use std::alloc::Global;
 use sync_service::AskedBook;
@@ -35,10 +35,10 @@ impl Past {
     }
 
     /// The mark of a frame's lane.
-    pub(crate) fn mark(&self, tables: &Tables, frame: &Frame<'_>) -> Number48
-        ensures { result ≡ mark_under (mark_in self.now.marks) (lane_in tables.now (telegram frame.now)) }
+    pub(crate) fn mark(&self, lane: Option<Lane>) -> Number48
+        ensures { result ≡ mark_under (mark_in self.now.marks) lane }
     {
-        self.marks.mark(lane_of(tables, frame))
+        self.marks.mark(lane)
     }
 
     /// The challenge that the receiver of a frame asked of its source.
@@ -48,9 +48,8 @@ impl Past {
         self.asked.asked(receiver(frame), frame.source)
     }
 
-    /// Takes what a judgement leaves behind. Either a number is kept or a challenge is noted, so that without
-    /// memory nothing has
-    /// changed.
+    /// Takes what a judgement leaves behind. Either a number is kept or a challenge is noted, so that without memory
+    /// nothing has changed.
     pub(crate) fn take(&mut self, frame: &Frame<'_>, judgement: &Judgement) -> Result<(), NoMemory>
         requires ask_keeps_nothing { is_ask judgement.now.verdict ≡ true → judgement.now.keeps ≡ None }
         ensures marks { IsOk result → (lane : Lane) → mark_in self.new.marks lane
