@@ -1,6 +1,7 @@
 -- The raise of a mark, and then all else that a telegram does: the two come together as one transition.
 use Rattle.std.specs.Prelude.{◌≢◌}
 use Rattle.std.proofs.Common.{◌≡◌, ℕ, ◌++◌, List, [], ◌∷◌, Option, Some, None, subst, ap, ◌∙◌}
+use Rattle.cemi_frames.specs.Frames.{Telegram}
 use Rattle.knx_base.specs.declared.address.IndAddr.{IndAddr}
 use Rattle.key_tables.specs.declared.types.Lane.{Lane}
 use Rattle.judge_rules.specs.declared.verdict.Verdict.{Verdict}
@@ -13,7 +14,7 @@ use Rattle.node_core.specs.declared.outcome.Addressee.{Addressee}
 use Rattle.node_core.specs.declared.outcome.Outcome.{Outcome}
 use Rattle.node_core.specs.Standing.{ConfigState, Standing, raised}
 use Rattle.node_core.specs.Transition.{behind}
-use Rattle.node_core.specs.Receiving.{kept_raises, verdict_transition}
+use Rattle.node_core.specs.Receiving.{kept_raises, verdict_transition, lane_transition, telegram_transition}
 use Rattle.node_core.specs.Node.{NodeState, Does}
 
 module _ {answer : Option NvmFault} {a b c : State} {p q r : ℕ → List ℕ → Type 0} {place place' : Option ℕ}
@@ -92,3 +93,20 @@ kept_then_does {answer = answer} {result = result} {old = old} {mid = mid} {new 
       };
       config = at_once.config ∙ same_config;
     }
+
+-- ---- a telegram with this lane does what it does on that
+
+pub runs_on_lane : {answer : Option NvmFault} {a b : State} {p q : ℕ → List ℕ → Type 0} {lane : Lane}
+    {found : Option Lane} (c : ConfigState) (s : Standing) (t : Telegram) (to : Addressee)
+    → Some lane ≡ found → Runs s.numbers (lane_transition c s to t lane).raises answer a b p q
+    → Runs s.numbers (telegram_transition c s t to found).raises answer a b p q
+runs_on_lane {answer = answer} {a = a} {b = b} {p = p} {q = q} c s t to is first =
+    subst (λ found. Runs s.numbers (telegram_transition c s t to found).raises answer a b p q) is first
+
+pub does_on_lane : {M : Type 0} {answer : Option NvmFault} {result : Outcome} {old new : NodeState M}
+    {out out' : List ℕ} {lane : Lane} {found : Option Lane} (c : ConfigState) (s : Standing) (t : Telegram)
+    (to : Addressee)
+    → Some lane ≡ found → Does (lane_transition c s to t lane) answer result old new out out'
+    → Does (telegram_transition c s t to found) answer result old new out out'
+does_on_lane {answer = answer} {result = result} {old = old} {new = new} {out = out} {out' = out'} c s t to is first =
+    subst (λ found. Does (telegram_transition c s t to found) answer result old new out out') is first

@@ -1,23 +1,32 @@
 ghost use Rattle.std.specs.Prelude.{◌≡◌, ◌≢◌, ◌<◌, ◌≤◌, ◌↔◌, ℕ, Option, Some, None, true, length, IfSome, IsTrue, IsOk, OnOk};
+ghost use Rattle.std.specs.Option.{option_and_then};
 ghost use Rattle.nvm_model.specs.Nvm.{State, fault_of};
 ghost use Rattle.seq_store.specs.Runs.{Runs};
 ghost use Rattle.cemi_frames.specs.Frames.{telegram};
-ghost use Rattle.judge_rules.specs.Checks.{lane_in, verdict_of};
+ghost use Rattle.judge_rules.specs.Checks.{lane_in, verdict_of, kept_by, opened_by};
 ghost use Rattle.judge_rules.specs.Parts.{source_of};
 ghost use Rattle.sync_service.specs.Open.{asked_of};
 ghost use Rattle.node_core.specs.Laws.{LeavesRaised, HasItsCause};
 ghost use Rattle.node_core.specs.Node.{node_state, receive_stop, Does};
-ghost use Rattle.node_core.specs.Receiving.{receive_transition, addressed_transition, telegram_transition, lane_transition, addressee, kept_raises};
-ghost use Rattle.node_core.specs.Standing.{raised, mark_at};
+ghost use Rattle.node_core.specs.Receiving.{receive_transition, addressed_transition, telegram_transition, addressee, kept_raises};
+ghost use Rattle.node_core.specs.Standing.{raised, place_in, mark_at};
 
 use crate::outcome::Addressee;
 use crate::{Node, Outcome};
 use cemi_frames::{Frame, read_frame};
-use judge_rules::{Verdict, judge, lane_of};
+use judge_rules::{Entry, Judgement, Verdict};
 use key_tables::Lane;
-use knx_base::{IndAddr, Number48};
+use knx_base::Number48;
 use nvm_model::{Nvm, NvmFault};
 use secure_apdu::{ApduBuf, FrameBuf};
+
+// The lane of a frame, the place of its mark, and the judgement under that mark.
+#[derive(Clone, Copy)]
+struct Judged {
+    lane: Option<Lane>,
+    place: Option<usize>,
+    judgement: Judgement,
+}
 
 impl<M: Nvm> Node<M> {
     /// Receives the octets of a recorded frame. A reply is sealed into `out`; without one `out` is as before.
@@ -89,45 +98,15 @@ impl<M: Nvm> Node<M> {
             (receive_stop result)
             (M.state old.memory) (M.state new.memory) (M.images old.memory) (M.images new.memory) }
     {
-        match lane_of(&self.config.tables, frame) {
-            Some(lane) => self.receive_on(frame, to, lane, out),
-            None => Outcome::Refused(self.verdict_without_lane(frame)),
-        }
-    }
-
-    // The verdict on a frame that has no lane, and so fails a check before one that reads a mark.
-    #[tactic(auto, unfolding(knx_base::specs::Number::number_at))]
-    fn verdict_without_lane(&self, frame: &Frame<'_>) -> Verdict
-        ensures verdict { let node = node_state self.now in let t = telegram frame.now in
-            result ≡ verdict_of node.config.rows 0 (asked_of node.standing.pending (source_of t)) t }
-    {
         let mut apdu = ApduBuf::new();
-        let zero = Number48::from_bytes([0; 6]);
-        let challenge = self.pending.asked(frame.source);
-        judge(&self.config.tables, zero, challenge, frame, &mut apdu).verdict
-    }
-
-    fn receive_on(
-        &mut self,
-        frame: &Frame<'_>,
-        to: Addressee,
-        lane: Lane,
-        out: &mut FrameBuf,
-    ) -> Outcome
-        requires running { (node_state self.old).running ≡ true }
-        ensures does { let old = node_state self.old in
-            Does (lane_transition old.config old.standing to (telegram frame.now) lane) (receive_stop result) result
-            old (node_state self.new) out.old out.new }
-        ensures runs { let old = node_state self.old in let new = node_state self.new in
-            Runs old.standing.numbers (lane_transition old.config old.standing to (telegram frame.now) lane).raises
-            (receive_stop result)
-            (M.state old.memory) (M.state new.memory) (M.images old.memory) (M.images new.memory) }
-    {
-        let place = self.config.place(lane);
-        let mark = self.mark_at(place);
-        let mut apdu = ApduBuf::new();
-        let asked = self.pending.asked(frame.source);
-        let judgement = judge(&self.config.tables, mark, asked, frame, &mut apdu);
+        let Judged {
+            lane,
+            place,
+            judgement,
+        } = self.judged(frame, &mut apdu);
+        let Some(lane) = lane else {
+            return Outcome::Refused(judgement.verdict);
+        };
         match self.keep(place, judgement.keeps) {
             Ok(()) => self.act_on_verdict(
                 frame.source,
@@ -138,6 +117,44 @@ impl<M: Nvm> Node<M> {
                 out,
             ),
             Err(fault) => Outcome::Stopped(fault),
+        }
+    }
+
+    fn judged(&self, frame: &Frame<'_>, apdu: &mut ApduBuf) -> Judged
+        ensures lane { result.lane ≡ lane_in (node_state self.now).config.rows (telegram frame.now) }
+        ensures place { result.place ≡ option_and_then (place_in (node_state self.now).config) result.lane }
+        ensures in_range { IfSome result.place
+            (λ place. place < length (node_state self.now).standing.numbers.marks) }
+        ensures verdict { let node = node_state self.now in let t = telegram frame.now in
+            result.judgement.verdict ≡ verdict_of node.config.rows (mark_at node.standing.numbers.marks result.place)
+            (asked_of node.standing.pending (source_of t)) t }
+        ensures keeps { let node = node_state self.now in let t = telegram frame.now in
+            result.judgement.keeps ≡ kept_by node.config.rows (mark_at node.standing.numbers.marks result.place)
+            (asked_of node.standing.pending (source_of t)) t }
+        ensures above { IfSome result.judgement.keeps
+            (λ keeps. mark_at (node_state self.now).standing.numbers.marks result.place < keeps.1) }
+        ensures opened { let node = node_state self.now in let t = telegram frame.now in
+            apdu.new ≡ opened_by node.config.rows (asked_of node.standing.pending (source_of t)) t }
+    {
+        let entry = Entry::enter(&self.config.tables, frame);
+        let lane = entry.lane();
+        let place = self.place(lane);
+        let asked = self.pending.asked(frame.source);
+        Judged {
+            lane,
+            place,
+            judgement: entry.judge(self.mark_at(place), asked, apdu),
+        }
+    }
+
+    // The place of a lane's mark.
+    fn place(&self, lane: Option<Lane>) -> Option<usize>
+        ensures place { result ≡ option_and_then (place_in (node_state self.now).config) lane }
+        ensures in_range { IfSome result (λ place. place < length (node_state self.now).standing.numbers.marks) }
+    {
+        match lane {
+            Some(lane) => self.config.place(lane),
+            None => None,
         }
     }
 
