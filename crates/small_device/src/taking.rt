@@ -4,12 +4,11 @@ ghost use Rattle.seq_store.specs.Calls.{IsRenumbered};
 ghost use Rattle.seq_store.specs.Runs.{Runs};
 ghost use Rattle.seq_store.specs.Store.{store_state, lanes_of, numbers_of};
 ghost use Rattle.cemi_frames.specs.Frames.{telegram};
-ghost use Rattle.judge_rules.specs.Checks.{lane_in};
 ghost use Rattle.small_device.specs.Device.{place_in, taken};
 
 use cemi_frames::Frame;
-use judge_rules::{Verdict, judge, lane_of};
-use key_tables::{LaneList, Tables};
+use judge_rules::{Entry, Verdict};
+use key_tables::{Lane, LaneList, Tables};
 use nvm_model::{Nvm, NvmFault};
 use secure_apdu::ApduBuf;
 use seq_store::SeqStore;
@@ -43,10 +42,11 @@ pub fn take<M: Nvm>(
     ensures sound { IsTrue (store_state store.new).sound ↔ IsOk result }
 {
     apdu.clear();
-    let Some(place) = place_of(lanes, tables, frame) else {
+    let entry = Entry::enter(tables, frame);
+    let Some(place) = place_of(lanes, entry.lane()) else {
         return Ok(None);
     };
-    let judgement = judge(tables, store.mark(place), None, frame, apdu);
+    let judgement = entry.judge(store.mark(place), None, apdu);
     if let Some((_, number)) = judgement.keeps {
         if let Err(fault) = store.raise(place, number) {
             apdu.clear();
@@ -59,10 +59,10 @@ pub fn take<M: Nvm>(
     Ok(Some(judgement.verdict))
 }
 
-// The index of a telegram's lane among those of the device.
-fn place_of(lanes: &LaneList, tables: &Tables, frame: &Frame<'_>) -> Option<usize>
-    ensures place { result ≡ place_in lanes.now (lane_in tables.now (telegram frame.now)) }
+// The index of a lane among those of the device.
+fn place_of(lanes: &LaneList, lane: Option<Lane>) -> Option<usize>
+    ensures place { result ≡ place_in lanes.now lane }
     ensures in_range { IfSome result (λ place. place < length lanes.now) }
 {
-    lanes.place(lane_of(tables, frame)?)
+    lanes.place(lane?)
 }
