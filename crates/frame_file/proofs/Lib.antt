@@ -1,5 +1,6 @@
 mod Kept
 mod WordLengths
+mod DigitLemmas
 mod LineLemmas
 mod MarginLemmas
 mod LeadLemmas

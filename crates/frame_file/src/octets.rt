@@ -1,10 +1,10 @@
-ghost use Rattle.std.specs.Prelude.{◌≡◌, ℕ, ◌≤◌, List, [], length, take};
+ghost use Rattle.std.specs.Prelude.{◌≡◌, ℕ, ◌≤◌, List, [], length, take, IsTrue, Some, Ok};
 ghost use Rattle.hex.specs.Hex.{decode_of};
 ghost use Rattle.frame_file.specs.Records.{record_of, record_of_digits, said_by};
 
 use knx_base::Cause;
 use std::marker::Model;
-use text_lines::judge_line;
+use text_lines::{MOST_OCTETS, judge_line};
 
 // The most octets that an element of a log writes; a line writes fewer.
 const ROOM: usize = 1024;
@@ -49,22 +49,36 @@ impl Octets {
         self.store[..self.len].copy_from_slice(octets);
     }
 
-    // Takes the octets that a word writes in hexadecimal.
-    fn decode(&mut self, word: &str) -> Result<bool, Cause>
-        requires short { length word.now ≤ 1024 }
-        ensures decoded { record_of_digits (decode_of word.now) ≡ said_by result self.new }
+    // Takes the octets that these digits write in hexadecimal.
+    fn decode(&mut self, digits: &[u8]) -> Result<bool, Cause>
+        requires short { length digits.now ≤ 1024 }
+        ensures decoded { record_of_digits (decode_of digits.now) ≡ said_by result self.new }
     {
-        self.len = word.len() / 2;
-        match hex::decode_to_slice(word, &mut self.store[..self.len]) {
+        self.len = digits.len() / 2;
+        match hex::decode_to_slice(digits, &mut self.store[..self.len]) {
             Ok(()) => Ok(true),
             Err(_) => Err(Cause::Digits),
         }
+    }
+
+    // Takes the octets of a line that is digits from its first octet to its last. The answer is whether it is one.
+    fn take_digits(&mut self, line: &[u8]) -> bool
+        ensures digits { IsTrue result → record_of line.now ≡ Ok (Some self.new) }
+    {
+        if line.is_empty() || line.len() > MOST_OCTETS {
+            return false;
+        }
+        matches!(self.decode(line), Ok(true))
     }
 
     /// Takes the octets of the record that a line says. The answer is whether it says one.
     pub(crate) fn take_line(&mut self, line: &[u8]) -> Result<bool, Cause>
         ensures line { record_of line.now ≡ said_by result self.new }
     {
+        // Almost all lines are digits alone. Such a line is one word, so it is not judged before.
+        if self.take_digits(line) {
+            return Ok(true);
+        }
         let mut words = match judge_line(line) {
             Ok(Some(words)) => words,
             Ok(None) => return Ok(false),
@@ -73,6 +87,6 @@ impl Octets {
         let (Some(word), None) = (words.next(), words.next()) else {
             return Err(Cause::Words);
         };
-        self.decode(word)
+        self.decode(word.as_bytes())
     }
 }
