@@ -1,9 +1,9 @@
 -- The octets that a text was encoded as are those that the search finds.
-use Rattle.std.proofs.Common.{◌≡◌, ◌≢◌, ℕ, zero, suc, ◌+◌, ◌-◌, ◌*◌, ◌/◌, ◌%◌, ◌<◌, ◌≤◌, Bool, true, false, cond, List, [], ◌∷◌, ◌++◌, length, length-append, get_or, replicate, Option, Some, None, refl, sym, ap, subst, ◌∙◌, arith, inl, inr}
+use Rattle.std.proofs.Common.{◌≡◌, ℕ, zero, suc, ◌+◌, ◌-◌, ◌*◌, ◌/◌, ◌%◌, ◌<◌, ◌≤◌, Bool, true, false, cond, List, [], ◌∷◌, ◌++◌, length, length-append, get_or, replicate, Option, Some, None, refl, sym, ap, subst, ◌∙◌, arith}
 use Rattle.std.specs.Prelude.{find, pos, ℤ}
 use Rattle.std.specs.Option.{option_map}
-use Rattle.std.specs.Int.{Width, to_be_bytes, w8, w16, w32}
-use Rattle.std.specs.Cmp.Lexicographic.{pointwise, same_text}
+use Rattle.std.specs.Int.{to_be_bytes, w8, w16, w32}
+use Rattle.std.specs.Cmp.Lexicographic.{same_text}
 use Rattle.std.specs.List.{list_all}
 use Rattle.std.proofs.lemmas.Bool.{and_parts, leb-true, leb-false}
 use Rattle.std.proofs.lemmas.Bool.Decides.{nat_tests}
@@ -11,7 +11,7 @@ use Rattle.std.proofs.lemmas.List.{length-replicate}
 use Rattle.jiff.specs.Words.{days_in_month}
 use Rattle.datapoints.specs.declared.dpt.Dpt.{Dpt}
 use Rattle.datapoints.specs.declared.dpt.Dpt.TheVariants.{Switch, Scaling, U8, U16, U32, I8, I16, I32, Hundredths, Time, Date, Text14}
-use Rattle.datapoints.specs.Values.{HasValue, IsTextOfNone, IsLeastForm, IsFloat, IsCharacters, is_printable, is_negative, exponent_of, exponent_in, century_of}
+use Rattle.datapoints.specs.Values.{HasValue, IsTextOfNone, IsLeastForm, is_printable, is_negative, exponent_of, exponent_in, century_of}
 use Rattle.datapoints.specs.Texts.{text_of, value_size, is_text, octets_with, all_octets}
 use Rattle.datapoints.specs.Apdus.{IsEncoded, apdu_with, apdu_for}
 use Rattle.datapoints.proofs.OneValue.{float_same, exponent_there, one_form, one_value}
@@ -84,8 +84,8 @@ value_there Time octets text has = rw has.octets_are (
       (omega (arith, has.minute_bound)) (omega (arith, has.second_bound)),
 )
 value_there Date octets text has =
-    let civil = (civil_date (century_of has.year * 100 + has.year) has.month has.day (in_range has.year has.year_bound)).0
-    has.date in
+    let civil = (civil_date (century_of has.year * 100 + has.year) has.month has.day
+    (in_range has.year has.year_bound)).0 has.date in
     let month : has.month ≤ 12 = grind (arith, nat_tests, civil) in
     let day : has.day ≤ days_in_month (pos (century_of has.year * 100 + has.year)) has.month =
     grind (arith, nat_tests, civil) in

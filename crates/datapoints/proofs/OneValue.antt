@@ -1,6 +1,6 @@
 -- A text is of the octets of one value, but for a number's forms with other exponents.
-use Rattle.std.proofs.Common.{◌≡◌, ◌≢◌, ℕ, ◌+◌, ◌-◌, ◌*◌, ◌/◌, ◌%◌, ◌^◌, ◌<◌, ◌≤◌, Bool, true, false, cond, List, [], ◌∷◌, ◌++◌, length, length-append, take, drop, get_or, replicate, refl, sym, ap, ◌∙◌, arith, inl, inr, nat_lt}
-use Rattle.std.specs.Prelude.{codes, nat_le}
+use Rattle.std.proofs.Common.{◌≡◌, ◌≢◌, ℕ, ◌+◌, ◌-◌, ◌*◌, ◌/◌, ◌%◌, ◌^◌, ◌<◌, ◌≤◌, Bool, true, false, cond, List, [], ◌∷◌, ◌++◌, length, length-append, take, drop, get_or, refl, sym, ap, ◌∙◌, arith, inl, inr, nat_lt}
+use Rattle.std.specs.Prelude.{codes}
 use Rattle.std.specs.Int.{Width, byte_len, to_be_bytes, w8, w16, w32}
 use Rattle.std.specs.Fmt.{decimal, sign_text}
 use Rattle.std.proofs.Math.Seq.{take-append_seam, drop-append_seam}
@@ -31,8 +31,8 @@ parts_same front other back rest size same =
 
 hundredths_injective : (a b : ℕ) → a < 2 ^ 60 → b < 2 ^ 60 → hundredths a ≡ hundredths b → a ≡ b
 hundredths_injective a b small_a small_b same =
-    let parts = parts_same (decimal (a / 100)) (decimal (b / 100)) (46 ∷ two_digits (a % 100)) (46 ∷ two_digits (b % 100))
-    refl same in
+    let parts = parts_same (decimal (a / 100)) (decimal (b / 100)) (46 ∷ two_digits (a % 100))
+    (46 ∷ two_digits (b % 100)) refl same in
     let whole = decimal_injective (a / 100) (b / 100) (omega arith) (omega arith) parts.0 in
     let back : 46 ∷ two_digits (a % 100) ≡ 46 ∷ two_digits (b % 100) = parts.1 in
     let tens : 48 + a % 100 / 10 ≡ 48 + b % 100 / 10 = cc back in

@@ -1,11 +1,11 @@
 -- The text that the function gives is the one that the relation says.
-use Rattle.std.proofs.Common.{◌≡◌, ◌≢◌, ℕ, ◌+◌, ◌-◌, ◌*◌, ◌/◌, ◌%◌, ◌^◌, ◌<◌, ◌≤◌, ◌==◌, Bool, true, false, not, ◌&&◌, cond, List, [], ◌∷◌, ◌++◌, length, length-append, length-drop, zero, suc, drop, get_or, replicate, Option, Some, None, refl, sym, ap, subst, ◌∙◌, arith, inl, inr, ◌⊎◌, eqb, nat_lt}
+use Rattle.std.proofs.Common.{◌≡◌, ℕ, ◌+◌, ◌-◌, ◌*◌, ◌/◌, ◌%◌, ◌^◌, ◌<◌, ◌≤◌, ◌==◌, Bool, true, false, not, ◌&&◌, cond, List, [], ◌∷◌, ◌++◌, length, length-append, length-drop, zero, suc, drop, get_or, replicate, Option, Some, None, refl, sym, ap, ◌∙◌, arith, inl, inr}
 use Rattle.std.specs.Prelude.{codes, nat_le, nat_eq, pos, ◌↔◌}
 use Rattle.std.specs.Int.{Width, byte_len, to_be_bytes, from_be_bytes, w8, w16, w32}
 use Rattle.std.specs.Fmt.{decimal}
-use Rattle.std.specs.List.{list_all, take_while}
+use Rattle.std.specs.List.{list_all}
 use Rattle.std.specs.Cmp.Lexicographic.{pointwise, same_text, other_text}
-use Rattle.std.proofs.lemmas.Bool.{eqb-true, eqb-false, eq-eqb, ne_eqb, not-true, not-false, cases_Bool, and_parts, and_from, leb-true, le-leb}
+use Rattle.std.proofs.lemmas.Bool.{eqb-true, eqb-false, eq-eqb, ne_eqb, not-true, cases_Bool, and_parts, and_from, leb-true, le-leb}
 use Rattle.std.proofs.lemmas.Bool.Decides.{nat_tests}
 use Rattle.std.proofs.lemmas.List.{get_or-drop}
 use Rattle.std.proofs.lemmas.List.Sums.{take_while-cons}
@@ -42,7 +42,8 @@ says_number w spelling octets text n injective small are = (
   λ same. record { number = n; bound = small; octets_are = sym are; spelled = cc },
 )
 
-one_there : (a : ℕ) → a < 256 → (from_be_bytes w8 (a ∷ []) < 256) × (to_be_bytes w8 (from_be_bytes w8 (a ∷ [])) ≡ a ∷ [])
+one_there : (a : ℕ) → a < 256 → (from_be_bytes w8 (a ∷ []) < 256)
+    × (to_be_bytes w8 (from_be_bytes w8 (a ∷ [])) ≡ a ∷ [])
 one_there a small =
     let low : a % 256 ≡ a = omega arith in
     (small, ap (λ n. n ∷ []) low)
@@ -173,7 +174,8 @@ says_time first minute second text small = (
 )
 
 -- a date that the calendar has
-pub civil_date : (year month day : ℕ) → year ≤ 9999 → IsDate (pos year) (pos month) (pos day) ↔ (is_civil_date year month day ≡ true)
+pub civil_date : (year month day : ℕ) → year ≤ 9999
+    → IsDate (pos year) (pos month) (pos day) ↔ (is_civil_date year month day ≡ true)
 civil_date year month day few = (
   λ is. grind (arith, nat_tests, is),
   λ valid.
@@ -318,7 +320,8 @@ says_value Time apdu size small = value_behind Time apdu size small
 says_value Date apdu size small = value_behind Date apdu size small
 says_value Text14 apdu size small = value_behind Text14 apdu size small
 
-text_there : (dpt : Dpt) (apdu : List ℕ) → length apdu ≡ apdu_size dpt → text_in dpt apdu ≡ text_of dpt (value_in dpt apdu)
+text_there : (dpt : Dpt) (apdu : List ℕ) → length apdu ≡ apdu_size dpt
+    → text_in dpt apdu ≡ text_of dpt (value_in dpt apdu)
 text_there dpt apdu size =
     ap (λ b. cond b (text_of dpt (value_in dpt apdu)) None) (eq-eqb (length apdu) (apdu_size dpt) size)
 

@@ -1,9 +1,9 @@
 -- The search through all lists of so many octets.
-use Rattle.std.proofs.Common.{◌≡◌, ℕ, zero, suc, ◌+◌, ◌<◌, ◌≤◌, Bool, true, false, cond, List, [], ◌∷◌, ◌++◌, length, get_or, Option, Some, None, refl, sym, ap, ◌∙◌, arith, inl, inr}
+use Rattle.std.proofs.Common.{◌≡◌, ℕ, zero, suc, ◌+◌, ◌<◌, ◌≤◌, Bool, true, false, cond, List, [], ◌∷◌, length, get_or, Option, Some, None, refl, sym, ap, ◌∙◌, arith, inl, inr}
 use Rattle.std.specs.Prelude.{find}
 use Rattle.std.specs.Option.{option_map, option_or}
 use Rattle.std.specs.List.{flat_map, range_with_len}
-use Rattle.std.proofs.lemmas.Bool.{cases_eq, cases_Bool}
+use Rattle.std.proofs.lemmas.Bool.{cases_eq}
 use Rattle.std.proofs.lemmas.List.Folds.{find-append}
 use Rattle.std.proofs.lemmas.List.Concat.{flat_map-cons}
 use Rattle.datapoints.specs.Texts.{with_front, all_octets}
@@ -17,7 +17,8 @@ find_front p octet [] = refl
 find_front p octet (list ∷ lists) = by (p (octet ∷ list)) (find_front p octet lists) where
   by : (passes : Bool)
       → find p (with_front lists octet)
-      ≡ option_map (λ list. octet ∷ list) (find (λ list. p (octet ∷ list)) lists) → cond passes (Some (octet ∷ list)) (find p (with_front lists octet))
+      ≡ option_map (λ list. octet ∷ list) (find (λ list. p (octet ∷ list)) lists)
+      → cond passes (Some (octet ∷ list)) (find p (with_front lists octet))
       ≡ option_map (λ list. octet ∷ list) (cond passes (Some list) (find (λ list. p (octet ∷ list)) lists))
   by true hypothesis = refl
   by false hypothesis = hypothesis

@@ -1,7 +1,6 @@
 -- The text of a value as a function of its octets, and the octets of a text as a search. This is statement: that the
 -- function says the same as the relation is proved.
-use Rattle.std.specs.Prelude.{◌≡◌, ℕ, zero, suc, ◌+◌, ◌*◌, ◌/◌, ◌%◌, ◌^◌, ◌==◌, ◌&&◌, not, nat_le, nat_eq, if◌then◌else◌, Bool, true, false, List, [], ◌∷◌, map, find, codes, slice_index, Option, Some, None, ◌↔◌, pos}
-use Rattle.std.specs.Option.{option_map}
+use Rattle.std.specs.Prelude.{◌≡◌, ℕ, zero, suc, ◌+◌, ◌*◌, ◌/◌, ◌%◌, ◌^◌, ◌==◌, ◌&&◌, not, nat_le, nat_eq, if◌then◌else◌, Bool, false, List, [], ◌∷◌, map, find, codes, slice_index, Option, Some, None, ◌↔◌, pos}
 use Rattle.std.specs.Int.{from_be_bytes, w8, w16, w32}
 use Rattle.std.specs.Fmt.{decimal}
 use Rattle.std.specs.List.{list_all, flat_map, range_with_len, take_while}
