@@ -83,7 +83,7 @@ equal_is a b equal = same_key-is a b (sym (same_is_equal a b) ∙ ap is_eq equal
 pub same_itself : (a : RowKey) → same_key a a ≡ true
 same_itself a = sym (same_is_equal a a) ∙ ap is_eq (is_itself (key_cmp a a) (total.antisymm a a))
 
-both_ways : (a b : Bool) → (a ≡ true → b ≡ true) → (b ≡ true → a ≡ true) → a ≡ b
+pub both_ways : (a b : Bool) → (a ≡ true → b ≡ true) → (b ≡ true → a ≡ true) → a ≡ b
 both_ways true b here there = sym (here refl)
 both_ways false true here there = there refl
 both_ways false false here there = refl
