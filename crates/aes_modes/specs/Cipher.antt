@@ -1,5 +1,5 @@
--- AES-128 (FIPS 197). A block, a state or a round key is a list of 16 octets in the standard's order:
--- the octet in row r and column c of the square is at place r + 4 c (3.4).
+-- Statement: AES-128 (FIPS 197). A block, a state or a round key is a list of 16 octets in the standard's order: the
+-- octet in row r and column c of the square is at place r + 4 c (3.4).
 use Rattle.std.specs.Prelude.{◌≡◌, ℕ, zero, suc, ◌+◌, ◌-◌, ◌*◌, ◌%◌, ◌<◌, ◌==◌, if◌then◌else◌, List, [], ◌∷◌, length, slice_index}
 use Rattle.aes_modes.specs.Octet.{◌⊕◌, times, sub_byte}
 

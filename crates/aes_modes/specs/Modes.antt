@@ -1,4 +1,4 @@
--- Modes of operation of AES-128 over a list of octets: CBC (SP 800-38A, section 6.2), CBC-MAC, and a
+-- Statement: modes of operation of AES-128 over a list of octets: CBC (SP 800-38A, section 6.2), CBC-MAC, and a
 -- counter stream (SP 800-38A, section 6.5).
 use Rattle.std.specs.Prelude.{◌≡◌, ℕ, zero, suc, ◌+◌, ◌-◌, ◌*◌, ◌/◌, ◌%◌, List, ◌++◌, length, map, replicate, slice_index, slice_set}
 use Rattle.std.specs.List.{range_with_len}

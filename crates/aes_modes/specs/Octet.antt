@@ -1,6 +1,6 @@
--- Octets as elements of the finite field of FIPS 197 (section 4), and the substitution of an octet
--- (section 5.1.1). An octet is a number below 256 whose bit i is the coefficient of x^i, and the sum
--- of two octets is their XOR.
+-- Statement: octets as elements of the finite field of FIPS 197 (section 4), and the substitution of an octet
+-- (section 5.1.1). An octet is a number below 256 whose bit i is the coefficient of x^i, and the sum of two octets is
+-- their XOR.
 use Rattle.std.specs.Prelude.{ℕ, zero, suc, ◌+◌, ◌*◌, ◌/◌, ◌%◌, ◌^◌, ◌==◌, if◌then◌else◌, bit_xor}
 
 -- the sum of two polynomials over two elements (4.1)

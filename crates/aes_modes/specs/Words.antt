@@ -1,4 +1,4 @@
--- A block as four words, one for each column, with row 0 in the highest octet.
+-- Plumbing: a block as four words, one for each column, with row 0 in the highest octet.
 use Rattle.std.specs.Prelude.{ℕ, ◌-◌, ◌*◌, ◌/◌, ◌%◌, ◌^◌, List, [], ◌∷◌, slice_index, map}
 use Rattle.std.specs.Int.{w32, from_be_bytes}
 use Rattle.std.specs.List.{range_with_len}

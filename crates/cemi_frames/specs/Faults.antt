@@ -1,5 +1,5 @@
--- Why octets are no frame: tests in the order in which the octets stand, each with its fault. The first that applies is
--- the fault.
+-- Statement: why octets are no frame: tests in the order in which the octets stand, each with its fault. The first
+-- that applies is the fault.
 use Rattle.std.specs.Prelude.{ℕ, zero, suc, ◌+◌, ◌-◌, ◌/◌, ◌%◌, List, [], ◌∷◌, ◌++◌, length, slice_index, take, drop, Bool, true, false, ◌==◌, nat_lt, ◌||◌, if◌then◌else◌, Option, Some, None, is_some, unwrap_or}
 use Rattle.cemi_frames.specs.declared.frame.NotFrame.{NotFrame}
 use Rattle.cemi_frames.specs.declared.frame.NotFrame.TheVariants as faults

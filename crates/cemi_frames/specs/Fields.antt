@@ -1,5 +1,5 @@
--- How frames are written: concatenations of fields. cEMI (KNX common external message interface) puts a message code
--- and additional information in front; TP1 (the twisted pair line) puts a check octet behind.
+-- Statement: how frames are written: concatenations of fields. cEMI (KNX common external message interface) puts a
+-- message code and additional information in front; TP1 (the twisted pair line) puts a check octet behind.
 use Rattle.std.specs.Prelude.{ℕ, ◌+◌, ◌-◌, ◌/◌, ◌%◌, List, [], ◌∷◌, ◌++◌, length, fold, bit_xor}
 use Rattle.std.specs.List.{flat_map}
 

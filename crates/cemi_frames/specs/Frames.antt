@@ -1,4 +1,4 @@
--- Which octets are which frame: one case for each message code and format.
+-- Statement: which octets are which frame: one case for each message code and format.
 use Rattle.std.specs.Prelude.{◌≡◌, ℕ, ◌/◌, ◌%◌, ◌<◌, ◌≤◌, ◌⊎◌, List, length, slice_index, Bool, false, ◌==◌}
 use Rattle.cemi_frames.specs.declared.frame.Code.{Code}
 use Rattle.cemi_frames.specs.declared.frame.Code.TheVariants.{Req, Ind, Con, Busmon}

@@ -1,4 +1,4 @@
--- Octets are one frame, or have one fault: never both, and never neither.
+-- Statement: octets are one frame, or have one fault: never both, and never neither.
 use Rattle.std.specs.Prelude.{◌≡◌, ◌↔◌, ℕ, ◌+◌, ◌<◌, List, ◌++◌, length, slice_index, take, drop, None, MatchOption}
 use Rattle.std.specs.List.{flat_map}
 use Rattle.cemi_frames.specs.Fields.{InfoRow, row_octets}

@@ -1,4 +1,4 @@
--- What stands at which place of octets that are a frame, for the readers of its parts.
+-- Plumbing: what stands at which place of octets that are a frame, for the readers of its parts.
 use Rattle.std.specs.Prelude.{◌≡◌, ℕ, ◌+◌, ◌-◌, ◌*◌, ◌/◌, ◌<◌, ◌≤◌, List, [], length, slice_index, slice_range, take, drop, Bool, false, ◌==◌, ◌&&◌, if◌then◌else◌, Option, Some, None, Result, MatchResult}
 use Rattle.cemi_frames.specs.declared.frame.Code.{Code}
 use Rattle.cemi_frames.specs.declared.frame.Code.TheVariants.{Req, Ind, Con, Busmon}

@@ -1,4 +1,4 @@
--- What is written for a telegram of low priority and hop count 6 that is no repetition.
+-- Statement: what is written for a telegram of low priority and hop count 6 that is no repetition.
 use Rattle.std.specs.Prelude.{ℕ, List, [], length, Bool, false, nat_le, if◌then◌else◌}
 use Rattle.cemi_frames.specs.declared.frame.Code.{Code}
 use Rattle.cemi_frames.specs.declared.writing.FrameParts.{FrameParts}

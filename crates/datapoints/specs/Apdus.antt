@@ -1,5 +1,5 @@
--- Application PDUs of group services that carry a value: the low six bits of the second octet, where the type is of
--- bits, or the octets after the first two.
+-- Statement: application PDUs of group services that carry a value: the low six bits of the second octet, where the
+-- type is of bits, or the octets after the first two.
 use Rattle.std.specs.Prelude.{◌≡◌, ◌≢◌, ℕ, ◌+◌, ◌%◌, List, [], ◌∷◌, length, drop, slice_index, Option}
 use Rattle.std.specs.Option.{option_map}
 use Rattle.plain_apdu.specs.Apdu.{apdu_of}

@@ -1,4 +1,4 @@
--- The datapoint types of this profile by their numbers in the KNX specification (chapter 3/7/2).
+-- Statement: the datapoint types of this profile by their numbers in the KNX specification (chapter 3/7/2).
 use Rattle.std.specs.Prelude.{◌≡◌, ◌≢◌, ℕ, nat_eq, if◌then◌else◌, Bool, List, codes, Option, Some, None, MatchOption}
 use Rattle.std.specs.Cmp.Lexicographic.{pointwise}
 use Rattle.datapoints.specs.declared.dpt.Dpt.{Dpt}

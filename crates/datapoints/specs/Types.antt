@@ -1,4 +1,4 @@
--- What a text of types says: each line the type of one group.
+-- Statement: what a text of types says: each line the type of one group.
 use Rattle.std.specs.Prelude.{◌≡◌, ℕ, ◌+◌, ◌==◌, nat_le, if◌then◌else◌, Bool, false, List, [], ◌∷◌, length, codes, find, Option, Some, None, Result, Ok, Err}
 use Rattle.std.specs.Option.{option_map, ok_or}
 use Rattle.std.specs.List.{filter_map, list_any, AllPairs}

@@ -1,5 +1,5 @@
--- The values of group objects as octets and as texts: the datapoint types of the KNX specification (chapter 3/7/2), cut
--- to this profile. The texts are this program's own.
+-- Statement: the values of group objects as octets and as texts: the datapoint types of the KNX specification
+-- (chapter 3/7/2), cut to this profile. The texts are this program's own.
 use Rattle.std.specs.Prelude.{◌≡◌, ◌≢◌, ℕ, ◌+◌, ◌-◌, ◌*◌, ◌/◌, ◌%◌, ◌^◌, ◌<◌, ◌≤◌, ◌&&◌, nat_le, nat_lt, if◌then◌else◌, Bool, true, List, [], ◌∷◌, ◌++◌, length, replicate, codes, slice_index, pos}
 use Rattle.std.specs.Int.{Width, byte_len, to_be_bytes, w8, w16, w32}
 use Rattle.std.specs.Fmt.{decimal, sign_text}

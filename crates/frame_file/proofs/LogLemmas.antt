@@ -2,7 +2,7 @@
 use Rattle.std.proofs.Common.{◌≡◌, ℕ, ◌<◌, ◌≤◌, true, false, cond, List, [], ◌∷◌, ◌++◌, length, codes, Option, Result, Ok, Err, sym, ap, ◌∙◌, append_assoc, append-nil, arith}
 use Rattle.std.specs.Str.{bytes_eq}
 use Rattle.tag_text.specs.Document.{Left}
-use Rattle.tag_text.specs.Reader.{Gives}
+use Rattle.tag_text.specs.Giving.{Gives}
 use Rattle.tag_text.specs.declared.tag.Tag.TheVariants as given
 use Rattle.tag_text.specs.declared.tag.TagFault.{TagFault}
 use Rattle.tag_text.specs.declared.tag.TagFault.TheVariants as tag

@@ -1,5 +1,4 @@
--- Application PDUs that carry a value of a group object (ISO/IEC 14543-3-1, the services of group values). This is
--- statement.
+-- Statement: application PDUs that carry a value of a group object (ISO/IEC 14543-3-1, the services of group values).
 use Rattle.std.specs.Prelude.{◌≡◌, ℕ, ◌+◌, List, [], slice_index, if◌then◌else◌, Bool, true, false, Ok}
 use Rattle.plain_apdu.specs.declared.service.Service.{Service}
 use Rattle.plain_apdu.specs.Service as services

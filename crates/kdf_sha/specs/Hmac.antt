@@ -1,4 +1,4 @@
--- HMAC-SHA-256: the keyed hash of RFC 2104, section 2, over the SHA-256 of FIPS 180-4.
+-- Statement: HMAC-SHA-256: the keyed hash of RFC 2104, section 2, over the SHA-256 of FIPS 180-4.
 use Rattle.std.specs.Prelude.{ℕ, ◌-◌, nat_lt, if◌then◌else◌, List, ◌++◌, length, replicate}
 use Rattle.kdf_sha.specs.Xor.{xored}
 use Rattle.sha2.specs.Sha256.{sha256}

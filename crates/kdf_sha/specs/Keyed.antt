@@ -1,4 +1,4 @@
--- What a keyed hasher holds.
+-- Plumbing: what a keyed hasher holds.
 use Rattle.std.specs.Prelude.{ℕ, List}
 use Rattle.sha2.specs.Hashers.{Holds256}
 use Rattle.kdf_sha.specs.Hmac.{padded_key, inner_pad, outer_pad}

@@ -1,4 +1,4 @@
--- PBKDF2 of RFC 8018, section 5.2, with HMAC-SHA-256 as its pseudorandom function.
+-- Statement: PBKDF2 of RFC 8018, section 5.2, with HMAC-SHA-256 as its pseudorandom function.
 use Rattle.std.specs.Prelude.{ℕ, zero, suc, ◌+◌, List, [], ◌∷◌, ◌++◌, fold, take, replicate}
 use Rattle.std.specs.Int.{w32, to_be_bytes, div_ceil}
 use Rattle.kdf_sha.specs.Xor.{xored}

@@ -1,4 +1,4 @@
--- Lists of octets XORed octet by octet.
+-- Statement: lists of octets XORed octet by octet.
 use Rattle.std.specs.Prelude.{ℕ, List, map, bit_xor}
 use Rattle.std.specs.List.{zip}
 

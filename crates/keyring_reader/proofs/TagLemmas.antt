@@ -6,8 +6,7 @@ use Rattle.tag_text.specs.declared.tag.Tag.TheVariants as given
 use Rattle.tag_text.specs.declared.tag.TagFault.{TagFault}
 use Rattle.tag_text.specs.declared.tag.TagFault.TheVariants as tag
 use Rattle.tag_text.specs.Document.{Left, outcome_of, events_of}
-use Rattle.tag_text.specs.Reader.{Gives}
-use Rattle.tag_text.specs.Scan.{after_tags, only}
+use Rattle.tag_text.specs.Giving.{Gives, after_tags, only}
 use Rattle.keyring_reader.specs.declared.fault.KeyringFault.TheVariants as fault
 use Rattle.keyring_reader.specs.Chain.{unless}
 use Rattle.keyring_reader.specs.Keyring.{tag_fault, tags_of, IsFault}

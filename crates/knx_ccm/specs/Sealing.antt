@@ -1,5 +1,5 @@
--- Sealing of an APDU of KNX Data Secure: a code by CBC-MAC over its head and octets, and a counter stream over both.
--- Octet by octet this is the profile of docs/RULES.md.
+-- Statement: sealing of an APDU of KNX Data Secure: a code by CBC-MAC over its head and octets, and a counter stream
+-- over both. Octet by octet this is the profile of docs/RULES.md.
 use Rattle.std.specs.Prelude.{◌≡◌, ℕ, ◌+◌, ◌-◌, ◌/◌, ◌%◌, ◌==◌, bit_and, bit_or, Bool, if◌then◌else◌, List, [], ◌∷◌, ◌++◌, length, take, drop, replicate, nat_eq, Option, Some, None, Result, IfErr}
 use Rattle.std.specs.Cmp.Lexicographic.{pointwise}
 use Rattle.knx_base.specs.Number.{octets_of}

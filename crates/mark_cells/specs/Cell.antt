@@ -1,5 +1,5 @@
--- A cell keeps one number in 14 octets, as two copies in turn: copy A at the place of the cell, copy B seven octets on.
--- A copy is a gate and the six octets of a number behind it, and counts while its gate is open.
+-- Statement: a cell keeps one number in 14 octets, as two copies in turn: copy A at the place of the cell, copy B
+-- seven octets on. A copy is a gate and the six octets of a number behind it, and counts while its gate is open.
 use Rattle.std.specs.Prelude.{◌≡◌, ◌⊎◌, ℕ, ◌+◌, ◌<◌, ◌≤◌, max, false, List, [], ◌∷◌, ◌++◌, replicate, Option, Some, None, Result, Ok, Err, nat_le, if◌then◌else◌}
 use Rattle.knx_base.specs.Number.{number_at, octets_of}
 use Rattle.nvm_model.specs.Gate.{open_octet, is_open, gated_writes}

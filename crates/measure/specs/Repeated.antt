@@ -1,4 +1,4 @@
--- The cipher applied to its own result.
+-- Statement: the cipher applied to its own result.
 use Rattle.std.specs.Prelude.{ℕ, zero, suc, List}
 use Rattle.aes_modes.specs.Cipher.{cipher}
 

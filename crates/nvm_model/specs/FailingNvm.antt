@@ -1,4 +1,4 @@
--- The memory that fails at a chosen call.
+-- Statement: the memory that fails at a chosen call.
 use Rattle.std.specs.Prelude.{◌≡◌, ℕ, ◌-◌, true, List, None}
 use Rattle.nvm_model.specs.Nvm.{State}
 use Rattle.nvm_model.specs.LastWrite.{IsSinceLast}

@@ -1,4 +1,4 @@
--- A gate is one octet that stands before a body of octets. What is behind it counts while it is open.
+-- Statement: a gate is one octet that stands before a body of octets. What is behind it counts while it is open.
 use Rattle.std.specs.Prelude.{◌≡◌, ◌⊎◌, ℕ, ◌+◌, ◌<◌, ◌==◌, Bool, true, false, List, [], ◌∷◌, length, slice_index}
 use Rattle.nvm_model.specs.Write.{Write, Torn}
 

@@ -1,4 +1,4 @@
--- Images of a memory that remembers the range of its last write.
+-- Statement: images of a memory that remembers the range of its last write.
 use Rattle.std.specs.Prelude.{◌≡◌, ◌⊎◌, ℕ, ◌<◌, List, length}
 use Rattle.std.proofs.Common.{ap, inl, inr, arith}
 use Rattle.nvm_model.specs.Write.{Torn}

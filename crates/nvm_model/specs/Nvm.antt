@@ -1,4 +1,4 @@
--- What calls of a memory do, for one call and for a list of writes in turn.
+-- Statement: what calls of a memory do, for one call and for a list of writes in turn.
 use Rattle.std.specs.Prelude.{◌≡◌, ◌⊎◌, ℕ, ◌+◌, ◌≤◌, Bool, true, false, List, length, Option, Some, None, IsSome, Result, Ok, Err}
 use Rattle.knx_base.specs.Faults.{counted, Rose}
 use Rattle.nvm_model.specs.Write.{Write, written, Reached, PartWritten}

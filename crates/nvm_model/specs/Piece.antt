@@ -1,4 +1,4 @@
--- Pieces of octets as writes.
+-- Plumbing: pieces of octets as writes.
 use Rattle.std.specs.Prelude.{List, ◌∷◌, map}
 use Rattle.nvm_model.specs.Write.{Write}
 use Rattle.nvm_model.specs.declared.turns.Piece.{Piece}

@@ -1,4 +1,4 @@
--- What a plan of an armed cut and an armed fault does to writes.
+-- Statement: what a plan of an armed cut and an armed fault does to writes.
 use Rattle.std.specs.Prelude.{ℕ, ◌-◌, ◌==◌, List, [], ◌∷◌, length, replicate, Option, Some, None, if◌then◌else◌}
 use Rattle.nvm_model.specs.Write.{Write, put}
 use Rattle.nvm_model.specs.declared.fault.NvmFault.{NvmFault}

@@ -1,4 +1,4 @@
--- The simulated memory.
+-- Statement: the simulated memory.
 use Rattle.std.specs.Prelude.{◌≡◌, ℕ, true, false, List, Option, Some}
 use Rattle.knx_base.specs.Faults.{counted}
 use Rattle.nvm_model.specs.Nvm.{State, faults_after, cuts_after}

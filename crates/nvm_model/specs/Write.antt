@@ -1,4 +1,4 @@
--- Writes over a list of octets: what they make, and what one that is torn may leave.
+-- Statement: writes over a list of octets: what they make, and what one that is torn may leave.
 use Rattle.std.specs.Prelude.{◌≡◌, ◌⊎◌, ℕ, ◌+◌, ◌<◌, ◌≤◌, List, [], ◌∷◌, ◌++◌, length, take, drop, slice_index}
 
 -- these octets, from this place on

@@ -1,4 +1,4 @@
--- Application PDUs: two octets with ten bits of a service, and the content.
+-- Statement: application PDUs: two octets with ten bits of a service, and the content.
 use Rattle.std.specs.Prelude.{◌≡◌, ℕ, ◌+◌, ◌*◌, ◌/◌, ◌%◌, ◌<◌, ◌≤◌, List, [], ◌∷◌, length, Result, Ok, Err, nat_lt, if◌then◌else◌}
 use Rattle.plain_apdu.specs.declared.service.Service.{Service}
 use Rattle.plain_apdu.specs.declared.apdu.Apdu.{Apdu}

@@ -1,4 +1,4 @@
--- The services of the application layer (ISO/IEC 14543-3-1), as far as this profile names them.
+-- Statement: the services of the application layer (ISO/IEC 14543-3-1), as far as this profile names them.
 use Rattle.std.specs.Prelude.{ℕ, List, [], ◌∷◌, Option, Some, None, nat_le, ◌&&◌, find, codes}
 use Rattle.plain_apdu.specs.declared.service.Service.{Service}
 use Rattle.plain_apdu.specs.declared.service.Service.TheVariants.{GroupValueRead, GroupValueResponse, GroupValueWrite, MemoryRead, MemoryResponse, MemoryWrite, DeviceDescriptorRead, DeviceDescriptorResponse, Restart, RestartOther, PropertyValueRead, PropertyValueResponse, PropertyValueWrite, Secure, Unknown}

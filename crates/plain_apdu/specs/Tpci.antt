@@ -1,4 +1,4 @@
--- What an octet of transport control says (the transport layer of ISO/IEC 14543-3-1).
+-- Statement: what an octet of transport control says (the transport layer of ISO/IEC 14543-3-1).
 use Rattle.std.specs.Prelude.{◌≡◌, ℕ, ◌+◌, ◌*◌, ◌/◌, ◌%◌, ◌<◌, ◌==◌, ◌&&◌, if◌then◌else◌}
 use Rattle.plain_apdu.specs.declared.tpci.Tpci.{Tpci}
 use Rattle.plain_apdu.specs.declared.tpci.Tpci.TheVariants.{Data, Connected, Connect, Disconnect, Ack, Nak, Other}

@@ -1,4 +1,4 @@
--- What a code covers of a frame beside its APDU.
+-- Statement: what a code covers of a frame beside its APDU.
 use Rattle.std.specs.Prelude.{ℕ, slice_index}
 use Rattle.cemi_frames.specs.Frames.{Telegram}
 use Rattle.knx_ccm.specs.declared.head.Head.{Head}

@@ -1,4 +1,4 @@
--- The frame that a sealed APDU is sent in.
+-- Statement: the frame that a sealed APDU is sent in.
 use Rattle.std.specs.Prelude.{ℕ, List, [], ◌∷◌, ◌++◌, length}
 use Rattle.knx_base.specs.Number.{octets_of}
 use Rattle.cemi_frames.specs.Fields.{Fields, long_octets, message}

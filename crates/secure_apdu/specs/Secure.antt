@@ -1,4 +1,5 @@
--- Secure frames: the service 3f1 with a control field, a number, a secured APDU and a code, as docs/RULES.md tells.
+-- Statement: secure frames: the service 3f1 with a control field, a number, a secured APDU and a code, as
+-- docs/RULES.md tells.
 use Rattle.std.specs.Prelude.{◌≡◌, ℕ, ◌-◌, ◌/◌, ◌%◌, ◌==◌, ◌&&◌, ◌||◌, nat_lt, nat_le, Bool, true, false, if◌then◌else◌, List, [], ◌∷◌, length, slice_index, drop, find, Option, option_map}
 use Rattle.knx_base.specs.Number.{number_at}
 use Rattle.plain_apdu.specs.declared.tpci.Tpci.{Tpci}

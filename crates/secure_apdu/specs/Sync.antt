@@ -1,4 +1,4 @@
--- The octets of a synchronisation.
+-- Statement: the octets of a synchronisation.
 use Rattle.std.specs.Prelude.{ℕ, List, [], ◌∷◌, bit_xor}
 use Rattle.knx_base.specs.Number.{octets_of, number_of, number_at}
 

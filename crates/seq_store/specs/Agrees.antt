@@ -1,4 +1,4 @@
--- A store beside its memory.
+-- Statement: a store beside its memory.
 use Rattle.std.specs.Prelude.{◌≡◌, ℕ, ◌^◌, ◌<◌, true, List}
 use Rattle.nvm_model.specs.Nvm.{State}
 use Rattle.seq_store.specs.Laws.{Restores}

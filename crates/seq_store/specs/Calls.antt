@@ -1,4 +1,4 @@
--- What the calls of a store do, by themes.
+-- Statement: what the calls of a store do, by themes.
 use Rattle.std.specs.Prelude.{◌≡◌, ◌≢◌, ◌↔◌, ℕ, ◌+◌, ◌-◌, ◌^◌, ◌<◌, ◌≤◌, true, List, Result, Err, Option, Some, IsOk, IsSome, IfOk, OnOk, OnErr}
 use Rattle.knx_base.specs.Faults.{Rose}
 use Rattle.nvm_model.specs.Nvm.{State, HasNvmCause, Reads}

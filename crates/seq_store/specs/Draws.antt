@@ -1,4 +1,4 @@
--- Numbers that are drawn, how far ahead they are reserved, and how many writes that takes.
+-- Statement: numbers that are drawn, how far ahead they are reserved, and how many writes that takes.
 use Rattle.std.specs.Prelude.{◌≡◌, ℕ, ◌+◌, ◌-◌, ◌^◌, ◌<◌, ◌≤◌, min, Bool, true, List, [], ◌∷◌, nat_le, if◌then◌else◌}
 
 -- the last reserved number once this one is drawn

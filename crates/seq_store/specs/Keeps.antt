@@ -1,4 +1,4 @@
--- What raises in turn keep of the numbers, over every image that restores some.
+-- Statement: what raises in turn keep of the numbers, over every image that restores some.
 use Rattle.std.specs.Prelude.{◌≡◌, ◌≤◌, ℕ, List, length, None}
 use Rattle.nvm_model.specs.Plan.{Struck, strike}
 use Rattle.nvm_model.specs.Write.{written, Reached}

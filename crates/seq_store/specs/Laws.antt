@@ -1,4 +1,4 @@
--- What every layout of a memory's numbers keeps, in the names that the layout gives.
+-- Statement: what every layout of a memory's numbers keeps, in the names that the layout gives.
 use Rattle.std.specs.Prelude.{◌≡◌, ◌≢◌, ◌⊎◌, ℕ, ◌+◌, ◌^◌, ◌<◌, ◌≤◌, List, length, slice_index, Option, Some, None, IsSome}
 use Rattle.std.specs.List.{All}
 use Rattle.nvm_model.specs.Nvm.{State, Makes, LeavesOnly}

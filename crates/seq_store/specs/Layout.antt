@@ -1,5 +1,5 @@
--- Where a memory keeps its numbers. This file and Ring.antt alone know places; all else goes by the names that it
--- gives.
+-- Statement: where a memory keeps its numbers. This file and Ring.antt alone know places; all else goes by the names
+-- that it gives.
 --
 -- Value 0 of a memory of so many lanes is the last reserved number, and value 1 + i is the mark of lane i. A memory is
 -- a ring of records in two banks, with an index of one octet in each record.

@@ -1,4 +1,5 @@
--- The life of one memory: starts, draws, raises and stops in any order, and the numbers that are drawn in it.
+-- Statement: the life of one memory: starts, draws, raises and stops in any order, and the numbers that are drawn in
+-- it.
 use Rattle.std.specs.Prelude.{◌≡◌, ℕ, ◌+◌, ◌^◌, ◌<◌, ◌≤◌, max, List, [], ◌∷◌, Option, Some, None}
 use Rattle.nvm_model.specs.Write.{written, Reached}
 use Rattle.seq_store.specs.Laws.{Ready}

@@ -1,4 +1,4 @@
--- What the answers of a store say of its memory.
+-- Statement: what the answers of a store say of its memory.
 use Rattle.std.specs.Prelude.{Bool, true, false, Option, None, Some, Result, Ok, Err}
 use Rattle.nvm_model.specs.declared.fault.NvmFault.{NvmFault}
 use Rattle.seq_store.specs.declared.fault.StoreFault.{StoreFault}

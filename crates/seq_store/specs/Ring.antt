@@ -1,4 +1,4 @@
--- A ring of records in two banks, with indexes of so many octets.
+-- Statement: a ring of records in two banks, with indexes of so many octets.
 --
 -- A bank has a gate, a generation of 8 octets, a number of 6 octets for each value, and sixteen records of gate, index
 -- and number. An image is any list of numbers, so each number of six octets is taken below 2^48.

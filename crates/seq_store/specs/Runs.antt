@@ -1,4 +1,4 @@
--- Raises one after another, in the words of the numbers that a memory restores.
+-- Statement: raises one after another, in the words of the numbers that a memory restores.
 use Rattle.std.specs.Prelude.{◌≡◌, ◌⊎◌, ℕ, zero, suc, ◌+◌, ◌^◌, ◌<◌, ◌&&◌, nat_lt, List, [], ◌∷◌, ◌++◌, length, slice_index, slice_set, Option, None, unwrap_or, if◌then◌else◌}
 use Rattle.nvm_model.specs.Nvm.{State, Makes, LeavesOnly}
 use Rattle.nvm_model.specs.declared.fault.NvmFault.{NvmFault}

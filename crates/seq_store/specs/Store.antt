@@ -1,4 +1,4 @@
--- What a store shows.
+-- Statement: what a store shows.
 use Rattle.std.specs.Prelude.{ℕ, Bool, List, length}
 use Rattle.seq_store.specs.Runs.{Numbers}
 use Rattle.seq_store.specs.declared.store.SeqStore.{SeqStore}

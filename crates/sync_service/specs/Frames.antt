@@ -1,4 +1,4 @@
--- The two telegrams of a synchronisation: what each is sealed under, and what it carries.
+-- Statement: the two telegrams of a synchronisation: what each is sealed under, and what it carries.
 use Rattle.std.specs.Prelude.{ℕ, List, ◌++◌, false}
 use Rattle.knx_base.specs.declared.address.IndAddr.{IndAddr}
 use Rattle.knx_base.specs.Number.{octets_of}

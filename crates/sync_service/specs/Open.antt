@@ -1,4 +1,4 @@
--- Challenges that wait for their answers.
+-- Statement: challenges that wait for their answers.
 use Rattle.std.specs.Prelude.{ℕ, ◌==◌, ◌&&◌, if◌then◌else◌, Bool, List, Option, Some, None}
 use Rattle.std.specs.Map.{lookup}
 use Rattle.knx_base.specs.declared.address.IndAddr.{IndAddr}

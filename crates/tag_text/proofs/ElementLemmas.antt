@@ -13,7 +13,7 @@ use Rattle.tag_text.specs.declared.tag.Tag.TheVariants as tag
 use Rattle.tag_text.specs.declared.tag.TagFault.{TagFault}
 use Rattle.tag_text.specs.declared.tag.TagFault.TheVariants as fault
 use Rattle.tag_text.specs.Document.{Left, State, Goes, Stops, place_of, is_empty, is_inside, may_begin, has_room, bad, begins, judged, step, left_of, start_of, outcome_of, after_order_mark}
-use Rattle.tag_text.specs.Scan.{after_tags, only}
+use Rattle.tag_text.specs.Giving.{after_tags, only}
 use Rattle.tag_text.specs.Grammar.{IsPiece, IsTag, IsEndTag}
 use Rattle.tag_text.specs.Elements.{IsElement, Alone, Around, IsContent, Nothing, Skips, Has, IsMargin, NoMargin, Margin, IsWhole}
 use Rattle.tag_text.proofs.PieceLemmas.{piece_less}

@@ -9,7 +9,7 @@ use borrow.Author.Tests.{ltb-true, ltb-false, leb-true, leb-false}
 use Rattle.tag_text.specs.Pieces.{Piece, piece_at}
 use Rattle.tag_text.specs.declared.tag.TagFault.TheVariants as fault
 use Rattle.tag_text.specs.Document.{Left, State, Step, Goes, Stops, place_of, is_empty, is_inside, is_whole, bad, judged, step, left_of, start_of, outcome_of}
-use Rattle.tag_text.specs.Scan.{after_tags}
+use Rattle.tag_text.specs.Giving.{after_tags}
 use Rattle.tag_text.specs.Grammar.{IsPiece, IsLeft, Whole, Next, Misplaced, NoPiece, IsDocument}
 use Rattle.tag_text.proofs.PieceLemmas.{piece_less}
 use Rattle.tag_text.proofs.GrammarLemmas.{both, piece_is, is_piece}

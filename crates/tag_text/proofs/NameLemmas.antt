@@ -16,7 +16,8 @@ use Rattle.tag_text.specs.declared.tag.Tag.TheVariants as tag
 use Rattle.tag_text.specs.declared.tag.TagFault.TheVariants as fault
 use Rattle.tag_text.specs.Document.{Left, State, Step, Goes, Stops, place_of, is_inside, is_whole, may_begin, has_room, bad, begins, ends, judged, step, left_after, left_within, left_of, start_of, outcome_of, events_of}
 use Rattle.tag_text.specs.Grammar.{IsPiece}
-use Rattle.tag_text.specs.Scan.{TakesTag, only, end_of}
+use Rattle.tag_text.specs.Scan.{TakesTag, end_of}
+use Rattle.tag_text.specs.Giving.{only}
 use Rattle.tag_text.proofs.GrammarLemmas.{is_piece}
 
 first_differs : (name : List ℕ) (first : List ℕ × List ℕ) (attributes : List (List ℕ × List ℕ)) (b : Bool)

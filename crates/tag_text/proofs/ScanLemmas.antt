@@ -10,7 +10,8 @@ use Rattle.tag_text.specs.declared.tag.Tag.TheVariants as tag
 use Rattle.tag_text.specs.declared.tag.TagFault.{TagFault}
 use Rattle.tag_text.specs.declared.tag.TagFault.TheVariants as fault
 use Rattle.tag_text.specs.Document.{Left, State, Goes, step, left_of, start_of, outcome_of}
-use Rattle.tag_text.specs.Scan.{Answers, GivesTag, TakesTag, GivesLeft, end_of, only}
+use Rattle.tag_text.specs.Scan.{Answers, GivesTag, TakesTag, GivesLeft, end_of}
+use Rattle.tag_text.specs.Giving.{only}
 use Rattle.tag_text.proofs.DocumentLemmas.{left_goes, left_stops}
 
 gives_tag : (all : Left) (old new : State) (g : Tag) (ends : List Tag) → left_of old ≡ all

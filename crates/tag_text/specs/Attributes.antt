@@ -1,4 +1,4 @@
--- The attributes of a tag: names with values, in order of appearance.
+-- Statement: the attributes of a tag: names with values, in order of appearance.
 use Rattle.std.specs.Prelude.{ℕ, Bool, true, false, if◌then◌else◌, List, [], ◌∷◌, find, Option}
 use Rattle.std.specs.Option.{option_map}
 use Rattle.std.specs.List.{list_any}

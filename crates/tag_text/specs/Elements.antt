@@ -1,4 +1,4 @@
--- A whole document as one tree of elements, by the recursive rule of their nesting.
+-- Statement: a whole document as one tree of elements, by the recursive rule of their nesting.
 use Rattle.std.specs.Prelude.{ℕ, suc, ◌-◌, true, false, List, [], ◌∷◌, ◌++◌, length}
 use Rattle.std.specs.Str.{IsUtf8}
 use Rattle.tag_text.specs.Pieces.{Skipped}

@@ -1,4 +1,5 @@
--- The grammar of element documents. Each rule says of a text that it is a part of the grammar and then the rest.
+-- Statement: the grammar of element documents. Each rule says of a text that it is a part of the grammar and then the
+-- rest.
 use Rattle.std.specs.Prelude.{◌≡◌, ℕ, ◌<◌, Bool, true, false, List, [], ◌∷◌, ◌++◌, length, codes, Option, Some, None, ◌⊎◌}
 use Rattle.std.specs.List.{list_all, list_any}
 use Rattle.std.specs.Str.{IsUtf8, IsValidUpTo}
@@ -8,7 +9,7 @@ use Rattle.tag_text.specs.Values.{is_quote, value_of}
 use Rattle.tag_text.specs.Attributes.{are_distinct}
 use Rattle.tag_text.specs.Pieces.{Piece, Start, Empty, End, Skipped, is_text_octet}
 use Rattle.tag_text.specs.Document.{Left, State, Goes, Stops, place_of, is_inside, is_whole, judged, start_of}
-use Rattle.tag_text.specs.Scan.{after_tags, only}
+use Rattle.tag_text.specs.Giving.{after_tags, only}
 use Rattle.tag_text.specs.declared.tag.Tag.{Tag}
 use Rattle.tag_text.specs.declared.tag.TagFault.{TagFault}
 use Rattle.tag_text.specs.declared.tag.TagFault.TheVariants as fault

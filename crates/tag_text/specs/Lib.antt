@@ -3,6 +3,7 @@ pub mod Values
 pub mod Pieces
 pub mod PieceView
 pub mod Document
+pub mod Giving
 pub mod Scan
 pub mod Attributes
 pub mod Reader

@@ -1,4 +1,4 @@
--- The names of a tag's attributes.
+-- Statement: the names of a tag's attributes.
 use Rattle.std.specs.Prelude.{◌≡◌, ℕ, ◌<◌, List, length}
 use Rattle.std.specs.List.{slice_index_or}
 use Rattle.tag_text.specs.declared.tag.Tag.{Tag}

@@ -1,4 +1,4 @@
--- The classes of octets, and the parts of a text that stand at its front.
+-- Statement: the classes of octets, and the parts of a text that stand at its front.
 use Rattle.std.specs.Prelude.{◌≡◌, ℕ, ◌==◌, nat_lt, ◌&&◌, ◌||◌, Bool, false, if◌then◌else◌, List, [], ◌∷◌, length, take_while, drop, nat_eq, Option, Some, None}
 use Rattle.std.specs.List.{starts_with, list_any, before_first, after_first}
 

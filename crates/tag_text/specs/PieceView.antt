@@ -1,4 +1,4 @@
--- The pieces of the code as pieces of the definitions.
+-- Plumbing: the pieces of the code as pieces of the definitions.
 use Rattle.tag_text.specs.Pieces.{Piece, Start, Empty, End, Skipped}
 use Rattle.tag_text.specs.declared.piece.Piece.{Piece as CodePiece}
 use Rattle.tag_text.specs.declared.piece.Piece.TheVariants as code

@@ -1,4 +1,4 @@
--- The pieces of a document: a tag, an instruction, a comment, a text, a run of blanks.
+-- Statement: the pieces of a document: a tag, an instruction, a comment, a text, a run of blanks.
 use Rattle.std.specs.Prelude.{ℕ, zero, suc, Bool, true, false, not, if◌then◌else◌, List, [], ◌∷◌, ◌++◌, length, codes, Option, Some, None}
 use Rattle.std.specs.Option.{option_map, option_and_then, option_map_or}
 use Rattle.tag_text.specs.Octets.{is_blank, is_octet, drop_while, after_blanks, after_mark, after_first_mark, name_at}

@@ -1,7 +1,8 @@
--- What a reader has still to give.
+-- Plumbing: what a reader has still to give.
 use Rattle.std.specs.Prelude.{◌≡◌, ℕ, [], ◌∷◌, Option, Some, None, Result, Ok, Err}
 use Rattle.tag_text.specs.Document.{Left, left_of}
-use Rattle.tag_text.specs.Scan.{state_of, end_of, after_tags, only}
+use Rattle.tag_text.specs.Scan.{state_of, end_of}
+use Rattle.tag_text.specs.Giving.{after_tags, only}
 use Rattle.tag_text.specs.declared.reader.TagReader.TheInside.{Inside}
 use Rattle.tag_text.specs.declared.tag.Tag.{Tag}
 use Rattle.tag_text.specs.declared.tag.Tag.TheVariants as tag
@@ -15,14 +16,3 @@ left_if_well_formed (Some place) left = only (Some (fault.Utf8 place))
 
 abbrev pub left_by : Inside → Left
 left_by r = left_if_well_formed r.ill_formed (after_tags (end_of r.ended) (left_of (state_of r.scan)))
-
--- what a call of `next` does to what is left: a tag is the first of the tags that are left; Finish comes where nothing
--- is left, and a fault where nothing but that fault is, and both leave it so; without memory it is as it was
-abbrev pub Gives : Left → Left → Result Tag TagFault → Type 0
-Gives old new (Ok (tag.Start name attributes place)) = old ≡ after_tags (tag.Start name attributes place ∷ []) new
-Gives old new (Ok (tag.End place)) = old ≡ after_tags (tag.End place ∷ []) new
-Gives old new (Ok tag.Finish) = (old ≡ only None) × (new ≡ old)
-Gives old new (Err fault.NoMemory) = new ≡ old
-Gives old new (Err (fault.Bad place)) = (old ≡ only (Some (fault.Bad place))) × (new ≡ old)
-Gives old new (Err (fault.Utf8 place)) = (old ≡ only (Some (fault.Utf8 place))) × (new ≡ old)
-Gives old new (Err (fault.Deep place)) = (old ≡ only (Some (fault.Deep place))) × (new ≡ old)

@@ -1,6 +1,7 @@
--- What a scan does, in the words of documents.
+-- Plumbing: what a scan does, in the words of documents.
 use Rattle.std.specs.Prelude.{◌≡◌, ℕ, ◌<◌, true, length, List, [], ◌∷◌, ◌++◌, Option, Some, None, Result, Ok, Err}
 use Rattle.tag_text.specs.Document.{Left, State, Step, Goes, Stops, begins, place_of}
+use Rattle.tag_text.specs.Giving.{after_tags, only}
 use Rattle.tag_text.specs.declared.scan.Scan.{Scan}
 use Rattle.tag_text.specs.declared.scan.Given.{Given}
 use Rattle.tag_text.specs.declared.tag.Tag.{Tag}
@@ -46,14 +47,6 @@ BeginsElement old new name attributes (Err (fault.Deep place)) = (new ≡ old)
     × ((tags : List Tag) (opened : List (List ℕ)) (after : List ℕ)
     → begins old tags opened after ≡ Stops (Some (fault.Deep place)))
 BeginsElement old new name attributes (Err (fault.Utf8 place)) = ⊥
-
--- these tags, and then what is left later
-abbrev pub after_tags : List Tag → Left → Left
-after_tags tags later = record { tags = tags ++ later.tags; fault = later.fault }
-
--- nothing but this
-abbrev pub only : Option TagFault → Left
-only fault = record { tags = []; fault = fault }
 
 -- what was left is this tag and these right after it, and then what is left now
 abbrev pub TakesTag : Left → Left → Tag → List Tag → Type 0

@@ -1,4 +1,4 @@
--- The value of an attribute: its references resolved, each line end and tab a space.
+-- Statement: the value of an attribute: its references resolved, each line end and tab a space.
 use Rattle.std.specs.Prelude.{ℕ, ◌+◌, ◌*◌, ◌==◌, nat_lt, ◌&&◌, ◌||◌, Bool, if◌then◌else◌, List, [], ◌∷◌, ◌++◌, length, drop, nat_eq, codes, encode_utf8, fold, Option, Some, None}
 use Rattle.std.specs.Option.{option_map, option_and_then}
 use Rattle.std.specs.List.{starts_with, list_all, list_any, slice_split}

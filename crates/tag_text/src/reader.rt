@@ -30,7 +30,7 @@ impl<'a> TagReader<'a> {
     ghost use Rattle.tag_text.specs.Document.{outcome_of};
     ghost use Rattle.tag_text.specs.Grammar.{IsDocument};
     ghost use Rattle.tag_text.specs.Names.{NamesOnce};
-    ghost use Rattle.tag_text.specs.Reader.{Gives};
+    ghost use Rattle.tag_text.specs.Giving.{Gives};
 
     /// A reader before the first tag of the document with these octets.
     pub fn new(bytes: &'a [u8]) -> TagReader<'a>

@@ -12,7 +12,7 @@ use Rattle.std.specs.Str.{IsUtf8}
 use Rattle.std.proofs.lemmas.Str.{IsUtf8-from_ascii}
 use Rattle.std.proofs.lemmas.List.Quantifiers.{position-Some}
 use Rattle.memchr.specs.Find.{IsFirstByte, is_byte}
-use Rattle.text_lines.specs.Lines.{is_blank, is_text, is_word, words_of}
+use Rattle.text_lines.specs.Lines.{is_blank, is_text, is_word, words_of, is_comment}
 
 chosen : (b : Bool) (x n : ℕ) → cond b (Some x) None ≡ Some n → (b ≡ true) × (x ≡ n)
 chosen true x n e = (refl, cc)
@@ -128,23 +128,55 @@ word_at_front : (text : List ℕ) → 0 < length text → is_blank (get_or text 
 word_at_front [] some e = absurd (omega arith)
 word_at_front (octet ∷ text) some e = word_first octet text e
 
+-- behind the blanks in front of a text stands its first word
+record BeginsWord (text rest : List ℕ) : Type 0 where
+  same : words_of text ≡ words_of rest
+  some : 0 < length rest
+  letter : is_blank (get_or rest 0 0) ≡ false
+
+at_place : (text rest : List ℕ) (begin : ℕ) → rest ≡ drop begin text → get_or rest 0 0 ≡ get_or text begin 0
+at_place text rest begin rest_is =
+    let added : begin + 0 ≡ begin = omega arith in
+    ap (λ (t : List ℕ). get_or t 0 0) rest_is ∙ get_or-drop begin text 0 0 ∙ ap (λ (n : ℕ). get_or text n 0) added
+
+begins_word : (text rest : List ℕ) (begin : ℕ) → position (λ octet. not (is_blank octet)) text ≡ Some begin
+    → rest ≡ drop begin text → BeginsWord text rest
+begins_word text rest begin found rest_is =
+    let place = place_found (λ octet. not (is_blank octet)) text begin found in
+    let passes = passes_at_first (λ octet. not (is_blank octet)) text 0 place.0 in
+    record {
+      same = sym (blanks_skipped text) ∙ ap (λ (n : ℕ). words_of (drop n text)) place.1 ∙ ap words_of (sym rest_is);
+      some = omega (arith, ap length rest_is, length-drop begin text, place.0, place.1);
+      letter = ap is_blank (at_place text rest begin rest_is ∙ ap (λ (n : ℕ). get_or text n 0) (sym place.1))
+          ∙ not_not _ passes;
+    }
+
 pub word_cut : (text rest : List ℕ) (begin : ℕ) (end : Option ℕ)
     → position (λ octet. not (is_blank octet)) text ≡ Some begin → rest ≡ drop begin text → end ≡ position is_blank rest
     → words_of text ≡ take (unwrap_or end (length rest)) rest ∷ words_of (drop (unwrap_or end (length rest)) rest)
 word_cut text rest begin end found rest_is end_is =
-    let place = place_found (λ octet. not (is_blank octet)) text begin found in
-    let passes = passes_at_first (λ octet. not (is_blank octet)) text 0 place.0 in
-    let here : get_or rest 0 0 ≡ get_or text begin 0 = ap (λ (t : List ℕ). get_or t 0 0) rest_is
-    ∙ (let added : begin + 0 ≡ begin = omega arith in get_or-drop begin text 0 0
-    ∙ ap (λ (n : ℕ). get_or text n 0) added) in
-    let letter : is_blank (get_or rest 0 0) ≡ false =
-    ap is_blank (here ∙ ap (λ (n : ℕ). get_or text n 0) (sym place.1)) ∙ not_not _ passes in
-    let some : 0 < length rest = omega (arith, ap length rest_is, length-drop begin text, place.0, place.1) in
-    let skipped : words_of text ≡ words_of rest =
-    sym (blanks_skipped text) ∙ ap (λ (n : ℕ). words_of (drop n text)) place.1 ∙ ap words_of (sym rest_is) in
+    let begins = begins_word text rest begin found rest_is in
     let until : unwrap_or end (length rest) ≡ position_or_len is_blank rest =
     ap (λ (o : Option ℕ). unwrap_or o (length rest)) end_is ∙ place_or_length is_blank rest in
-    skipped ∙ word_at_front rest some letter ∙ ap (λ (n : ℕ). take n rest ∷ words_of (drop n rest)) (sym until)
+    begins.same ∙ word_at_front rest begins.some begins.letter
+    ∙ ap (λ (n : ℕ). take n rest ∷ words_of (drop n rest)) (sym until)
+
+comment_at_front : (text : List ℕ) → 0 < length text → is_blank (get_or text 0 0) ≡ false
+    → is_comment (words_of text) ≡ (get_or text 0 0 == 35)
+comment_at_front [] some e = absurd (omega arith)
+comment_at_front (octet ∷ text) some e = ap is_comment (word_begins octet text e)
+
+-- a line is a comment where its first word begins with the sign, and where it has no word
+pub comment_at : (text : List ℕ) (begin : ℕ) → position (λ octet. not (is_blank octet)) text ≡ Some begin
+    → is_comment (words_of text) ≡ (get_or text begin 0 == 35)
+comment_at text begin found =
+    let begins = begins_word text (drop begin text) begin found refl in
+    ap is_comment begins.same ∙ comment_at_front (drop begin text) begins.some begins.letter
+    ∙ ap (λ (octet : ℕ). octet == 35) (at_place text (drop begin text) begin refl)
+
+pub no_comment : (text : List ℕ) → position (λ octet. not (is_blank octet)) text ≡ None
+    → is_comment (words_of text) ≡ true
+no_comment text none = ap is_comment (no_word text none)
 
 pub both_true : (a b : Bool) → (a && b) ≡ true → (a ≡ true) × (b ≡ true)
 both_true true b e = (refl, e)

@@ -1,5 +1,5 @@
--- Texts of lines, as tables, lists of frames and scripts are. A line ends with a line feed, or a carriage return and a
--- line feed, and the last may end with the text: `lines` of std says which lines a text has.
+-- Statement: texts of lines, as tables, lists of frames and scripts are. A line ends with a line feed, or a carriage
+-- return and a line feed, and the last may end with the text: `lines` of std says which lines a text has.
 use Rattle.std.specs.Prelude.{◌≡◌, ℕ, ◌<◌, ◌≤◌, ◌⊎◌, ◌++◌, ◌==◌, ◌||◌, ◌&&◌, nat_le, nat_lt, Bool, true, false, if◌then◌else◌, List, [], ◌∷◌, length, slice_index, Option, Some, None, Result, Ok, Err}
 use Rattle.std.specs.List.{filter, list_all, slice_split}
 use Rattle.knx_base.specs.declared.cause.Cause.{Cause}

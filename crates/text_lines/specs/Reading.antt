@@ -1,4 +1,4 @@
--- Reading the current file through a store of octets that were read and not yet taken: the held octets.
+-- Statement: reading the current file through a store of octets that were read and not yet taken: the held octets.
 use Rattle.std.specs.Prelude.{◌≡◌, ◌≢◌, ℕ, ◌+◌, ◌-◌, ◌<◌, ◌≤◌, List, [], ◌∷◌, ◌++◌, length, drop, Option, Some, None, IsSome, MatchOption}
 use Rattle.std.specs.Option.{IsSomeAnd}
 use Rattle.std.specs.Str.Lines.{lines}

@@ -1,6 +1,5 @@
 ghost use Rattle.std.specs.Prelude.{◌≡◌, ℕ, ◌+◌, ◌<◌, ◌≤◌, ◌^◌, List, [], ◌∷◌, length, Bool, true, MatchOption, Option, Some, None, IfSome, ◌==◌, position, not};
 ghost use Rattle.std.specs.List.{list_all};
-ghost use Rattle.std.specs.Option.{IsSomeAnd};
 ghost use Rattle.std.specs.Str.Lines.{lines, strip_carriage_return};
 ghost use Rattle.text_lines.specs.Lines.{is_blank, is_text, words_of, is_comment, Says, line_of, LinesState};
 
@@ -105,16 +104,17 @@ impl<'a> Words<'a> {
     {
         let (word, rest) = first_word(self.rest)?;
         self.rest = rest;
-        text_of(word)
+        Some(text_of(word))
     }
 }
 
 // Such octets are ASCII, so they are a text.
-fn text_of(word: &[u8]) -> Option<&str>
+fn text_of(word: &[u8]) -> &str
     requires text { list_all is_text word.now ≡ true }
-    ensures same { IsSomeAnd result (λ text. text.now ≡ word.now) }
+    ensures same { result.now ≡ word.now }
 {
-    str::from_utf8(word).ok()
+    // safe: printable ASCII is UTF-8
+    unsafe { str::from_utf8_unchecked(word) }
 }
 
 // The first word, and what comes after it.
@@ -179,14 +179,19 @@ pub fn judge_line(line: &[u8]) -> Result<Option<Words<'_>>, Cause>
 fn is_printable(line: &[u8]) -> bool
     ensures printable { result ≡ list_all is_text line.now }
 {
-    line.iter().all(|octet| is_text(*octet))
+    // Without an early end, so that the octets of a line are looked at side by side.
+    let mut printable = true;
+    'octets: for octet in line {
+        printable &= is_text(*octet);
+    }
+    printable
 }
 
 fn is_comment(line: &[u8]) -> bool
     ensures comment { result ≡ is_comment (words_of line.now) }
 {
-    match first_word(line) {
-        Some((word, _)) => word.first() == Some(&b'#'),
+    match place_of_word(line) {
+        Some(begin) => line[begin] == b'#',
         None => true,
     }
 }

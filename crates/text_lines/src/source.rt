@@ -6,7 +6,7 @@ ghost use Rattle.text_lines.specs.Reading.{GoesOn, OthersStay, WhereTold, TakesO
 use knx_base::{Failed, Files};
 use std::marker::Model;
 
-const STORE: usize = 512;
+const STORE: usize = 4096;
 
 /// The octets of the current file one after the other, read in pieces into a store of its own. A contract sees the
 /// octets that were read and not yet taken.
@@ -22,7 +22,7 @@ impl Model for Source {
 
     ghost view = { λ s. take (s.to - s.from) (drop s.from s.store) };
 
-    ghost invariant = { λ s. (s.from ≤ s.to) × (s.to ≤ 512) };
+    ghost invariant = { λ s. (s.from ≤ s.to) × (s.to ≤ 4096) };
 }
 
 impl Source {

@@ -1,6 +1,6 @@
 use Rattle.std.proofs.Common.{◌≡◌, length}
 use Rattle.tag_text.specs.Document.{outcome_of}
-use Rattle.tag_text.specs.Scan.{after_tags}
+use Rattle.tag_text.specs.Giving.{after_tags}
 use Rattle.keyring_reader.proofs.tags.read_tags.Given as goal
 
 -- the tags so far and what is left are the whole document
