@@ -20,7 +20,7 @@ use crate::showing::{NothingShown, Showing};
 use crate::whole_file::WholeFile;
 use audit_core::Audit;
 use frame_file::Records;
-use key_tables::{BuildFault, Row, Tables, read_tables};
+use key_tables::{Row, RowList, Tables, read_tables};
 use knx_base::{Files, Sink};
 use secure_apdu::ApduBuf;
 use std::alloc::Global;
@@ -97,41 +97,37 @@ fn rows_in<S: Sink>(
     ensures ends { EndsTelling (S.faults out.old) (S.faults out.new) (status_of result) }
 {
     match read_tables(alloc, text) {
-        Ok(rows) => laid_over(alloc, rows.as_slice(), under, out),
+        Ok(rows) => laid_over(alloc, rows, under, out),
         Err(fault) => Err(refuse_tables(&fault, out)),
     }
 }
 
 fn laid_over<S: Sink>(
     alloc: Global,
-    rows: &[Row],
+    rows: RowList,
     under: Option<&[Row]>,
     out: &mut S,
 ) -> Result<Tables, Status>
-    requires stand { build_fault rows.now ≡ None }
-    ensures rows { MatchResult result (λ found. laid_over (rows_of under.entry) rows.now ≡ Ok found)
-        (λ status. Stops (laid_over (rows_of under.entry) rows.now) status (S.octets out.old) (S.octets out.new)) }
+    ensures rows { MatchResult result (λ found. laid_over (rows_of under.entry) rows ≡ Ok found)
+        (λ status. Stops (laid_over (rows_of under.entry) rows) status (S.octets out.old) (S.octets out.new)) }
     ensures unwritten { OnOk result (out.new ≡ out.old) }
     ensures not_whole { IfErr result (λ status. IsWhole status → ⊥) }
     ensures ends { EndsTelling (S.faults out.old) (S.faults out.new) (status_of result) }
 {
     match under {
-        None => build(alloc, rows),
-        Some(under) => merge(alloc, rows, under, out),
+        None => tables_of(alloc, rows),
+        Some(under) => merge(alloc, rows.as_slice(), under, out),
     }
 }
 
-// Rows that may stand, so that only memory can be wanting.
-fn build(alloc: Global, rows: &[Row]) -> Result<Tables, Status>
-    requires stand { build_fault rows.now ≡ None }
-    ensures rows { IfOk result (λ found. found ≡ rows.now) }
+fn tables_of(alloc: Global, rows: RowList) -> Result<Tables, Status>
+    ensures rows { IfOk result (λ found. found ≡ rows) }
     ensures no_memory { IfErr result (λ status. status ≡ Status.NoMemory) }
 {
-    match Tables::build(alloc, rows) {
-        Ok(tables) => Ok(tables),
-        Err(BuildFault::NoMemory) => Err(Status::NoMemory),
-        Err(_) => unreachable!(),
-    }
+    let Ok(tables) = Tables::from_rows(alloc, rows) else {
+        return Err(Status::NoMemory);
+    };
+    Ok(tables)
 }
 
 fn merge<S: Sink>(alloc: Global, over: &[Row], under: &[Row], out: &mut S) -> Result<Tables, Status>

@@ -81,6 +81,19 @@ pub(super) fn audited_octets(
 ) -> Result<(MemSink, Status), Fail>
     requires numbered { (1 ≤ failing) × (failing ≤ 1000000) }
 {
+    audited_into(alloc, tables, frames, failing, 30_000)
+}
+
+// The same into a sink of so many octets.
+fn audited_into(
+    alloc: Global,
+    tables: &str,
+    frames: &[u8],
+    failing: u64,
+    room: usize,
+) -> Result<(MemSink, Status), Fail>
+    requires numbered { (1 ≤ failing) × (failing ≤ 1000000) }
+{
     if tables.len() > 1000 || frames.len() > 20_000_000 {
         return Err(Fail::from("a short text"));
     }
@@ -89,9 +102,32 @@ pub(super) fn audited_octets(
     files.add("tables", tables.as_bytes())?;
     files.add("frames", frames)?;
     files.fail_at(failing)?;
-    let mut out = MemSink::new(alloc, 30_000)?;
+    let mut out = MemSink::new(alloc, room)?;
     let status = run(alloc, &words, &mut files, &mut out, &mut None);
     Ok((out, status))
+}
+
+#[test]
+fn one_telegram_again_and_again_is_accepted_once(rt: HostRuntime) -> Result<(), Fail> {
+    let mut frames = Vec::new(rt.alloc());
+    for _ in 0..200_000 {
+        frames.extend_from_slice(ONCE.as_bytes())?;
+    }
+    let (out, status) = audited_into(rt.alloc(), TABLES, &frames, 1_000_000, 10_000_000)?;
+    assert_eq!(rt; status, Status::Alarm);
+    assert!(rt;
+        out.bytes().starts_with(
+            b"1 1.1.7 > 1/2/3 accepted number 5 GroupValue_Write 0081\n\
+         2 1.1.7 > 1/2/3 stale kept 5 got 5 !\n"
+        )
+    );
+    assert!(rt;
+        out.bytes().ends_with(
+            b"\n200000 1.1.7 > 1/2/3 stale kept 5 got 5 !\n\
+         total 200000 accepted 1 sync 0 alarms 199999\n"
+        )
+    );
+    Ok(())
 }
 
 #[test]
