@@ -168,12 +168,13 @@ place_set files i name d old new place first is moved =
     ∙ ap (λ (f : Stored). f.place) moved
 
 -- the first file of a name was made current, at its start
-pub opened : (files : List Stored) (current : Option (List ℕ)) (i : ℕ) (name : List ℕ) (d old new : Stored)
+pub opened : (files : List Stored) (current : Option (List ℕ)) (before after : List (List ℕ)) (i : ℕ) (name : List ℕ)
+    (d old new : Stored)
     → FirstAt files i name
     → old ≡ get_or files i d → new ≡ record old { place = 0 }
-    → IsAtStart (seen_in_memory files current 0) (seen_in_memory (set files i new) (Some (name_at (set files i new) i))
-    0) name
-opened files current i name d old new first is moved =
+    → IsAtStart (seen_in_memory files current before 0) (seen_in_memory (set files i new)
+    (Some (name_at (set files i new) i)) after 0) name
+opened files current before after i name d old new first is moved =
     let same_name = named_set files i name d old new 0 first is moved in
     let at_name = name_at-first (set files i new) i name (set-first files i name new first same_name) in
     let start = place_set files i name d old new 0 first is moved in
@@ -192,14 +193,14 @@ opened_alone files i name d old new place first is moved other differs =
     place_other files i name other new first (named_set files i name d old new place first is moved) differs
 
 -- the current file gave n octets
-pub moved_on : (files : List Stored) (i n room : ℕ) (d old new : Stored) (buffer : List ℕ)
+pub moved_on : (files : List Stored) (opened : List (List ℕ)) (i n room : ℕ) (d old new : Stored) (buffer : List ℕ)
     → FirstAt files i (name_at files i)
     → old ≡ get_or files i d → new ≡ record old { place = old.place + n }
     → n ≡ min room (length old.octets - old.place) → 0 < room → n ≤ length buffer
     → take n buffer ≡ take n (drop old.place old.octets) → new.place ≤ last_place
-    → MovesOn (seen_in_memory files (Some (name_at files i)) 0)
-    (seen_in_memory (set files i new) (Some (name_at (set files i new) i)) 0) buffer n
-moved_on files i n room d old new buffer first is moved count some bound given last =
+    → MovesOn (seen_in_memory files (Some (name_at files i)) opened 0)
+    (seen_in_memory (set files i new) (Some (name_at (set files i new) i)) opened 0) buffer n
+moved_on files opened i n room d old new buffer first is moved count some bound given last =
     let name = name_at files i in
     let same_name : new.name ≡ name = named_set files i name d old new (old.place + n) first is moved in
     let at_name : name_at (set files i new) i ≡ name =
@@ -259,3 +260,10 @@ named_added files more None first = refl
 named_added files more (Some i) first =
     ap Some (name_at-first (files ++ more) i (name_at files i)
     (first-append files more i (name_at files i) (first i refl)))
+
+-- the name of the file that was found is listed
+pub listed : (files : List Stored) (i : ℕ) (name : List ℕ) (d old new : Stored) (place : ℕ) (text : List ℕ)
+    (before after : List (List ℕ)) → FirstAt files i name → old ≡ get_or files i d → new ≡ record old { place = place }
+    → text ≡ new.name → after ≡ before ++ text ∷ [] → after ≡ before ++ name ∷ []
+listed files i name d old new place text before after first is moved same adds =
+    adds ∙ ap (λ n. before ++ n ∷ []) (same ∙ named_set files i name d old new place first is moved)

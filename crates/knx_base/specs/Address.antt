@@ -1,5 +1,5 @@
--- Addresses as text: an individual address is `area.line.device`; a group address is `main/middle/sub`, `main/sub` or
--- one decimal, and is written with three parts.
+-- Statement: addresses as text: an individual address is `area.line.device`; a group address is `main/middle/sub`,
+-- `main/sub` or one decimal, and is written with three parts.
 use Rattle.std.specs.Prelude.{◌≡◌, ℕ, ◌+◌, ◌*◌, ◌/◌, ◌%◌, ◌≤◌, ◌⊎◌, List, [], ◌∷◌, ◌++◌, Option, Some, None, ◌==◌, if◌then◌else◌}
 use Rattle.std.specs.Fmt.{decimal}
 use Rattle.knx_base.specs.Decimal.{IsDecimal, decimal_up_to}

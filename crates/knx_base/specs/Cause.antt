@@ -1,4 +1,4 @@
--- The words in which refusals name the cause of a refused line.
+-- Statement: the words in which refusals name the cause of a refused line.
 use Rattle.std.specs.Prelude.{ℕ, List, codes}
 use Rattle.knx_base.specs.declared.cause.Cause.{Cause}
 use Rattle.knx_base.specs.declared.cause.Cause.TheVariants.{Words, Address, Key, Level, Role, Any, Name, Lane, Number, Flags, Size, Value, Service, Digits, Long}

@@ -1,4 +1,4 @@
--- Decimals in texts: one or more digits 0 to 9, no sign, no leading zero but in 0 itself.
+-- Statement: decimals in texts: one or more digits 0 to 9, no sign, no leading zero but in 0 itself.
 use Rattle.std.specs.Prelude.{◌≡◌, ℕ, List, Option, Some, None, nat_eq, nat_le, if◌then◌else◌}
 use Rattle.std.specs.Fmt.{decimal}
 use Rattle.std.specs.Str.Parse.{digits_value}

@@ -1,4 +1,4 @@
--- Counts of faults: an answer of failure has its cause in a count that rose.
+-- Statement: counts of faults: an answer of failure has its cause in a count that rose.
 use Rattle.std.specs.Prelude.{ℕ, ◌+◌, ◌-◌, ◌^◌, ◌≤◌, ◌≡◌, min, Result, MatchResult, OnOk, OnErr}
 
 -- one more, but a count stands still at its type's last value

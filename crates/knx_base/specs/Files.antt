@@ -1,5 +1,5 @@
--- What is seen of a set of files, and what opening and reading do to it.
-use Rattle.std.specs.Prelude.{◌≡◌, ◌≢◌, ℕ, ◌+◌, ◌^◌, ◌≤◌, nat_eq, if◌then◌else◌, List, [], ◌∷◌, length, take, drop, Option, Some, None, IsSome, Result, OnOk, OnErr, IfOk}
+-- Statement: what is seen of a set of files, and what opening and reading do to it.
+use Rattle.std.specs.Prelude.{◌≡◌, ◌≢◌, ℕ, ◌+◌, ◌^◌, ◌≤◌, nat_eq, if◌then◌else◌, List, [], ◌∷◌, ◌++◌, length, take, drop, Option, Some, None, IsSome, Result, OnOk, OnErr, IfOk}
 use Rattle.std.specs.Option.{IsSomeAnd}
 use Rattle.std.specs.Cmp.Lexicographic.{pointwise}
 use Rattle.knx_base.specs.Faults.{HasCause}
@@ -32,6 +32,8 @@ pub record Seen : Type 0 where
   pub place : ℕ
   -- the place in the file of each name, where names are told
   pub places : List ℕ → ℕ
+  -- the names that were opened, in their order, where names are told
+  pub opened : List (List ℕ)
   -- how many faults there were
   pub faults : ℕ
 
@@ -46,11 +48,12 @@ pub record IsAtStart (old new : Seen) (name : List ℕ) : Type 0 where
   pub place : new.place ≡ 0
   pub start : IsSome old.told → new.places name ≡ 0
 
--- what a call of `open` does: whether it fails or not, no other file's place changes
+-- what a call of `open` does: whether it fails or not, its name alone is opened, and no other file's place changes
 pub record Opens {T E : Type 0} (old new : Seen) (name : List ℕ) (result : Result T E) : Type 0 where
   pub told : new.told ≡ old.told
   pub opened : OnOk result (IsAtStart old new name)
   pub closed : OnErr result (new.current ≡ None)
+  pub listed : IsSome old.told → new.opened ≡ old.opened ++ name ∷ []
   pub others : (other : List ℕ) → other ≢ name → new.places other ≡ old.places other
   pub cause : HasCause old.faults new.faults result
 
@@ -66,9 +69,10 @@ pub record MovesOn (old new : Seen) (buffer : List ℕ) (n : ℕ) : Type 0 where
       → n ≡ 0 → drop old.place octets ≡ []
   pub moved : (name : List ℕ) → old.current ≡ Some name → IsSome old.told → new.places name ≡ new.place
 
--- what a call of `read` does: whether it fails or not, no place changes but in the current file
+-- what a call of `read` does: whether it fails or not, nothing is opened, and no place changes but in the current file
 pub record Reads {E : Type 0} (old new : Seen) (buffer : List ℕ) (result : Result ℕ E) : Type 0 where
   pub told : new.told ≡ old.told
   pub moves : IfOk result (MovesOn old new buffer)
+  pub opened : new.opened ≡ old.opened
   pub others : (other : List ℕ) → old.current ≢ Some other → new.places other ≡ old.places other
   pub cause : HasCause old.faults new.faults result

@@ -1,5 +1,5 @@
--- What is seen of the host's files, which tell neither names nor octets.
-use Rattle.std.specs.Prelude.{ℕ, List, Option, None}
+-- Statement: what is seen of the host's files, which tell neither names nor octets.
+use Rattle.std.specs.Prelude.{ℕ, List, [], Option, None}
 use Rattle.knx_base.specs.Files.{Seen}
 
 pub record HostState : Type 0 where
@@ -11,4 +11,4 @@ pub record HostState : Type 0 where
   pub faults : ℕ
 
 abbrev pub seen_of : HostState → Seen
-seen_of s = record { told = None; current = s.current; place = s.place; places = λ _. 0; faults = s.faults }
+seen_of s = record { told = None; current = s.current; place = s.place; places = λ _. 0; opened = []; faults = s.faults }

@@ -5,6 +5,7 @@ pub mod Files
 pub mod Host
 pub mod MemSink
 pub mod MemFiles
+pub mod Openings
 pub mod Shelf
 pub mod SureFiles
 pub mod Decimal

@@ -1,4 +1,4 @@
--- Files in memory of which chosen calls fail.
+-- Statement: files in memory of which chosen calls fail.
 use Rattle.std.specs.Prelude.{ℕ, ◌==◌, Bool, List, Option}
 use Rattle.std.specs.List.{list_any}
 use Rattle.knx_base.specs.Faults.{counted}
@@ -10,6 +10,8 @@ pub record MemFilesState : Type 0 where
   pub files : List Stored
   -- the name of the current one
   pub current : Option (List ℕ)
+  -- the names that were opened, in their order
+  pub opened : List (List ℕ)
   -- the numbers of the calls that are to fail, counted from 1 over open and read
   pub armed : List ℕ
   -- how many calls there were, and how many failed
@@ -17,7 +19,7 @@ pub record MemFilesState : Type 0 where
   pub faults : ℕ
 
 abbrev pub seen_of : MemFilesState → Seen
-seen_of s = seen_in_memory s.files s.current s.faults
+seen_of s = seen_in_memory s.files s.current s.opened s.faults
 
 -- the next call fails
 abbrev pub is_armed : MemFilesState → Bool

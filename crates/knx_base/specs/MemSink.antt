@@ -1,4 +1,4 @@
--- A sink in memory that can be told to fail.
+-- Statement: a sink in memory that can be told to fail.
 use Rattle.std.specs.Prelude.{ℕ, ◌-◌, ◌==◌, ◌||◌, Bool, List, ◌++◌, length, take, min}
 use Rattle.std.specs.List.{list_any}
 use Rattle.knx_base.specs.Faults.{counted}

@@ -1,4 +1,4 @@
--- Sequence numbers of 48 bits as octets, the highest first.
+-- Statement: sequence numbers of 48 bits as octets, the highest first.
 use Rattle.std.specs.Prelude.{ℕ, ◌+◌, ◌*◌, ◌/◌, ◌%◌, ◌^◌, List, [], ◌∷◌, slice_index}
 
 -- the number that the six octets from this place on write

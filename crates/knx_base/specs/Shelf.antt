@@ -1,4 +1,4 @@
--- Files in memory, and how far each was read.
+-- Plumbing: files in memory, how far each was read, and which were opened.
 use Rattle.std.specs.Prelude.{◌≡◌, ◌≢◌, ℕ, zero, suc, nat_eq, if◌then◌else◌, List, [], ◌∷◌, map, Option, Some, None}
 use Rattle.std.specs.Cmp.Lexicographic.{pointwise}
 use Rattle.knx_base.specs.Files.{File, Seen}
@@ -22,13 +22,14 @@ abbrev pub current_place : List Stored → Option (List ℕ) → ℕ
 current_place files None = 0
 current_place files (Some name) = place_named files name
 
--- what is seen of such files, of which one is current by its name
-abbrev pub seen_in_memory : List Stored → Option (List ℕ) → ℕ → Seen
-seen_in_memory files current faults = record {
+-- what is seen of such files, of which one is current by its name, and some were opened by theirs
+abbrev pub seen_in_memory : List Stored → Option (List ℕ) → List (List ℕ) → ℕ → Seen
+seen_in_memory files current opened faults = record {
   told = Some (map file_of files);
   current = current;
   place = current_place files current;
   places = place_named files;
+  opened = opened;
   faults = faults;
 }
 
@@ -44,7 +45,8 @@ name_at [] i = []
 name_at (stored ∷ rest) zero = stored.name
 name_at (stored ∷ rest) (suc i) = name_at rest i
 
--- the files, and the name of the current one
+-- the files, the name of the current one, and the names that were opened, in their order
 pub record ShelfState : Type 0 where
   pub files : List Stored
   pub current : Option (List ℕ)
+  pub opened : List (List ℕ)

@@ -1,4 +1,4 @@
--- What a sink of octets takes, where it tells its octets.
+-- Statement: what a sink of octets takes, where it tells its octets.
 use Rattle.std.specs.Prelude.{◌≡◌, ℕ, ◌<◌, ◌≤◌, List, ◌++◌, length, take, Option, Result, MatchResult}
 use Rattle.std.specs.Io.KnownBytes.{append_known}
 

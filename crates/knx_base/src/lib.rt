@@ -14,6 +14,7 @@ mod line;
 mod mem_files;
 mod mem_sink;
 mod number;
+mod openings;
 mod shelf;
 mod sink;
 mod sure_files;

@@ -27,6 +27,7 @@ impl Model for MemFiles {
     ghost view = { λ m. record {
       files = m.shelf.files;
       current = m.shelf.current;
+      opened = m.shelf.opened;
       armed = m.armed.items;
       calls = m.calls;
       faults = m.faults;
@@ -36,7 +37,14 @@ impl Model for MemFiles {
 impl MemFiles {
     /// No files yet, and no call armed.
     pub fn new(alloc: Global) -> MemFiles
-        ensures empty { result ≡ record { files = []; current = None; armed = []; calls = 0; faults = 0 } }
+        ensures empty { result ≡ record {
+          files = [];
+          current = None;
+          opened = [];
+          armed = [];
+          calls = 0;
+          faults = 0;
+        } }
     {
         MemFiles {
             alloc,
@@ -107,13 +115,14 @@ impl Files for MemFiles {
         ensures armed { self.new.armed ≡ self.old.armed }
         ensures only_closed { OnErr result (self.new ≡ record self.old {
           current = None;
+          opened = self.old.opened ++ name.now ∷ [];
           calls = counted self.old.calls;
           faults = counted self.old.faults;
         }) }
     {
         if self.is_armed() {
             self.count_failure();
-            self.shelf.close();
+            self.shelf.fail_to_open(name);
             Err(Failed)
         } else {
             self.count_call();

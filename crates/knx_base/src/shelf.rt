@@ -3,9 +3,11 @@ ghost use Rattle.std.specs.Option.{option_map, ForSome};
 ghost use Rattle.std.specs.Cmp.Lexicographic.{pointwise};
 ghost use Rattle.std.specs.String.{string_bytes};
 ghost use Rattle.knx_base.specs.Files.{IsThere, IsAtStart, MovesOn, octets_named};
-ghost use Rattle.knx_base.specs.Shelf.{Stored, ShelfState, FirstAt, file_of, name_at, place_named, seen_in_memory};
+ghost use Rattle.knx_base.specs.Shelf.{Stored, ShelfState, FirstAt, file_of, name_at, place_named};
+ghost use Rattle.knx_base.specs.SureFiles.{seen_of};
 
 use crate::NoMemory;
+use crate::openings::Openings;
 use std::alloc::Global;
 use std::marker::Model;
 
@@ -43,6 +45,12 @@ impl StoredFile {
         self.name.as_str() == name
     }
 
+    fn name(&self) -> &String
+        ensures name { string_bytes result.now ≡ self.now.name }
+    {
+        &self.name
+    }
+
     fn restart(&mut self)
         ensures start { self.new ≡ record self.old { place = 0 } }
     {
@@ -68,23 +76,29 @@ impl StoredFile {
 pub(crate) struct Shelf {
     files: Vec<StoredFile>,
     current: Option<usize>,
+    opened: Openings,
 }
 
 impl Model for Shelf {
     ghost Value = { ShelfState };
 
-    ghost view = { λ s. record { files = s.files.items; current = option_map (name_at s.files.items) s.current } };
+    ghost view = { λ s. record {
+      files = s.files.items;
+      current = option_map (name_at s.files.items) s.current;
+      opened = s.opened;
+    } };
 
     ghost invariant = { λ s. ForSome s.current (λ i. FirstAt s.files.items i (name_at s.files.items i)) };
 }
 
 impl Shelf {
     pub(crate) fn new(alloc: Global) -> Shelf
-        ensures empty { result ≡ record { files = []; current = None } }
+        ensures empty { result ≡ record { files = []; current = None; opened = [] } }
     {
         Shelf {
             files: Vec::new(alloc),
             current: None,
+            opened: Openings::new(),
         }
     }
 
@@ -104,30 +118,39 @@ impl Shelf {
     pub(crate) fn open(&mut self, name: &str)
         requires there { IsThere (map file_of self.old.files) name.now }
         ensures told { map file_of self.new.files ≡ map file_of self.old.files }
-        ensures start { IsAtStart (seen_in_memory self.old.files self.old.current 0)
-            (seen_in_memory self.new.files self.new.current 0) name.now }
+        ensures start { IsAtStart (seen_of self.old) (seen_of self.new) name.now }
+        ensures opened { self.new.opened ≡ self.old.opened ++ name.now ∷ [] }
         ensures others { (other : List ℕ) → other ≢ name.now
             → place_named self.new.files other ≡ place_named self.old.files other }
     {
         if let Some(index) = position_named(&self.files, name) {
             let file = &mut self.files[index];
             file.restart();
+            self.opened.note(file.name());
             self.current = Some(index);
         }
     }
 
-    pub(crate) fn close(&mut self)
-        ensures closed { self.new ≡ record self.old { current = None } }
+    // The file was opened, and yet none is current.
+    pub(crate) fn fail_to_open(&mut self, name: &str)
+        requires there { IsThere (map file_of self.old.files) name.now }
+        ensures closed { self.new ≡ record self.old {
+          current = None;
+          opened = self.old.opened ++ name.now ∷ [];
+        } }
     {
         self.current = None;
+        if let Some(index) = position_named(&self.files, name) {
+            self.opened.note(self.files[index].name());
+        }
     }
 
     pub(crate) fn read(&mut self, buffer: &mut [u8]) -> usize
         requires room { 0 < length buffer.old }
         requires current { IsSome self.old.current }
         ensures told { map file_of self.new.files ≡ map file_of self.old.files }
-        ensures moves { MovesOn (seen_in_memory self.old.files self.old.current 0)
-            (seen_in_memory self.new.files self.new.current 0) buffer.new result }
+        ensures moves { MovesOn (seen_of self.old) (seen_of self.new) buffer.new result }
+        ensures opened { self.new.opened ≡ self.old.opened }
         ensures others { (other : List ℕ) → self.old.current ≢ Some other
             → place_named self.new.files other ≡ place_named self.old.files other }
     {

@@ -24,7 +24,7 @@ impl Model for SureFiles {
 impl SureFiles {
     /// No files yet.
     pub fn new(alloc: Global) -> SureFiles
-        ensures empty { result ≡ record { files = []; current = None } }
+        ensures empty { result ≡ record { files = []; current = None; opened = [] } }
     {
         SureFiles {
             alloc,

@@ -11,4 +11,5 @@ returns-clause-added c =
     (λ i. record {
       files = c.self.inside.files.items ++ c.in_ok-file.ensures.stored i ∷ [];
       current = named_added c.self.inside.files.items (c.in_ok-file.file ∷ []) c.self.inside.current c.self.invariant i;
+      opened = c.self.inside.opened;
     })

@@ -16,7 +16,7 @@ returns-in-Some-clause-told c =
 
 pub returns-in-Some-clause-moves : goal.returns-in-Some-clause-moves
 returns-in-Some-clause-moves c = rw (← c.self.view_is, c.in-Some.is)
-    (moved_on _ _ _ _ _ _ _ _ (c.self.invariant _ c.in-Some.is) c.index_mut-file.ensures.value
+    (moved_on _ _ _ _ _ _ _ _ _ (c.self.invariant _ c.in-Some.is) c.index_mut-file.ensures.value
     c.copy_out.ensures.moved c.copy_out.ensures.count (omega (arith, c.requires.room))
     (omega (arith, c.copy_out.auto.buffer)) c.copy_out.ensures.given c.copy_out.ensures.last.1)
 
