@@ -11,4 +11,5 @@ pub record HostState : Type 0 where
   pub faults : ℕ
 
 abbrev pub seen_of : HostState → Seen
-seen_of s = record { told = None; current = s.current; place = s.place; places = λ _. 0; opened = []; faults = s.faults }
+seen_of s =
+    record { told = None; current = s.current; place = s.place; places = λ _. 0; opened = []; faults = s.faults }

@@ -24,7 +24,7 @@ stays seen held = record {
   taken = omega arith;
   less = omega arith;
   placed = λ name is told at. at;
-  others = λ other not_current. refl;
+  others = record { opened = refl; places = λ other not_current. refl };
   within = λ octets has within. within;
   no_fault = refl;
 }
@@ -48,8 +48,10 @@ takes_less old new held kept left n m no_more goes = record {
 -- the other places stay first and then
 pub others_then : (old mid new : Seen) → mid.current ≡ old.current → OthersStay old mid → OthersStay mid new
     → OthersStay old new
-others_then old mid new same first then_ = λ other not_current.
-    then_ other (λ is. not_current (sym same ∙ is)) ∙ first other not_current
+others_then old mid new same first then_ = record {
+  opened = then_.opened ∙ first.opened;
+  places = λ other not_current. then_.places other (λ is. not_current (sym same ∙ is)) ∙ first.places other not_current;
+}
 
 -- what was taken first and then
 pub goes_then : (old mid new : Seen) (held between kept : List ℕ) (n m : ℕ) → GoesOn old mid held between n

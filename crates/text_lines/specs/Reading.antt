@@ -23,9 +23,10 @@ ahead seen held octets = held ++ drop seen.place octets
 abbrev pub to_come : Seen → List ℕ → ℕ
 to_come seen held = (last_place - seen.place) + length held
 
--- no place changed but in the current file
-abbrev pub OthersStay : Seen → Seen → Type 0
-OthersStay old new = (other : List ℕ) → old.current ≢ Some other → new.places other ≡ old.places other
+-- nothing was opened, and no place changed but in the current file
+pub record OthersStay (old new : Seen) : Type 0 where
+  pub opened : new.opened ≡ old.opened
+  pub places : (other : List ℕ) → old.current ≢ Some other → new.places other ≡ old.places other
 
 -- The current file was read on from one moment to another without a fault, and at least n octets were taken.
 pub record GoesOn (old new : Seen) (held kept : List ℕ) (n : ℕ) : Type 0 where

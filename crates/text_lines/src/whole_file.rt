@@ -1,4 +1,4 @@
-ghost use Rattle.std.specs.Prelude.{◌≡◌, ◌≢◌, ℕ, ◌≤◌, List, [], length, drop, Option, Some, None, IsSome, IfOk, option_map};
+ghost use Rattle.std.specs.Prelude.{◌≡◌, ◌≢◌, ℕ, ◌≤◌, List, [], ◌∷◌, ◌++◌, length, drop, Option, Some, None, IsSome, IfOk, option_map};
 ghost use Rattle.std.specs.Option.{ForSome};
 ghost use Rattle.knx_base.specs.Faults.{Rose};
 ghost use Rattle.knx_base.specs.Files.{Seen, Holds, IsThere};
@@ -31,6 +31,8 @@ pub fn read_all<F: Files>(
     ensures told { (F.seen files.new).told ≡ (F.seen files.old).told }
     ensures whole { IfOk result (λ found. (octets : List ℕ) → Holds (F.seen files.old) name.now octets
         → ReadsWhole most octets ((F.seen files.new).places name.now) (option_map (λ text. text.items) found)) }
+    ensures opened { IsSome (F.seen files.old).told
+        → (F.seen files.new).opened ≡ (F.seen files.old).opened ++ name.now ∷ [] }
     ensures others { (other : List ℕ) → other ≢ name.now → IsSome (F.seen files.old).told
         → (F.seen files.new).places other ≡ (F.seen files.old).places other }
     ensures later { (F.seen files.old).faults ≤ (F.seen files.new).faults }
