@@ -1,5 +1,5 @@
--- The audit of a list of records: what stands in the line of each, by the records before it. The latest of those comes
--- first.
+-- Statement: the audit of a list of records: what stands in the line of each, by the records before it. The latest of
+-- those comes first.
 use Rattle.std.specs.Prelude.{ℕ, ◌+◌, ◌==◌, ◌&&◌, max, if◌then◌else◌, List, [], ◌∷◌, length, map, find, Bool, true, false, Option, Some, None, Result, Ok, Err}
 use Rattle.std.specs.List.{filter}
 use Rattle.std.specs.Option.{option_and_then}

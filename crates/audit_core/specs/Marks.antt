@@ -1,4 +1,4 @@
--- A table of marks, in which a lane stands at most once.
+-- Plumbing: a table of marks, in which a lane stands at most once.
 use Rattle.std.specs.Prelude.{ℕ, unwrap_or}
 use Rattle.std.specs.Map.{lookup}
 use Rattle.key_tables.specs.declared.types.Lane.{Lane}

@@ -1,4 +1,4 @@
--- What a contract sees of an audit under way.
+-- Statement: what a contract sees of an audit under way.
 use Rattle.std.specs.Prelude.{◌≡◌, ℕ, ◌+◌, if◌then◌else◌, List, Bool, Some, None}
 use Rattle.knx_base.specs.declared.address.IndAddr.{IndAddr}
 use Rattle.key_tables.specs.declared.types.Lane.{Lane}

@@ -1,4 +1,4 @@
--- The texts of an audit: the line of a record, and the total.
+-- Statement: the texts of an audit: the line of a record, and the total.
 use Rattle.std.specs.Prelude.{ℕ, ℤ, List, [], ◌∷◌, ◌++◌, codes, Bool, true, false, Option, Some, None}
 use Rattle.std.specs.Fmt.{decimal, signed_decimal}
 use Rattle.knx_base.specs.Address.{individual_text, group_text}

@@ -1,5 +1,5 @@
--- What ties the two ends of a synchronisation together: the numbers that the requester takes are those of the reply.
--- This is statement; the words are those of Synchronising.
+-- Statement: what ties the two ends of a synchronisation together: the numbers that the requester takes are those of
+-- the reply. The words are those of Synchronising.
 --
 -- That the challenge which the requester has open is the one of the reply is a premise. Under another one the reply
 -- opens under another number, and that its code of 32 bits does not match then is no theorem.

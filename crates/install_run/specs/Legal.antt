@@ -1,5 +1,5 @@
--- Which outcomes are allowed after which steps, by what the outcomes before them tell: there is no memory and no plan
--- in it. This is statement.
+-- Statement: which outcomes are allowed after which steps, by what the outcomes before them tell: there is no memory
+-- and no plan in it.
 use Rattle.std.specs.Prelude.{◌≡◌, ◌≢◌, ◌⊎◌, ℕ, ◌+◌, ◌-◌, List, [], ◌∷◌, ◌++◌, length, map, set, get_or, Bool, true, false, Option, Some, None}
 use Rattle.key_tables.specs.declared.types.Row.{Row}
 use Rattle.seq_store.specs.Runs.{Numbers, Raise, after_raise}

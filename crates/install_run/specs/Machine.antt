@@ -1,5 +1,4 @@
--- What an event makes of an installation: its nodes with their memories, and the telegrams on the air. This is
--- statement.
+-- Statement: what an event makes of an installation: its nodes with their memories, and the telegrams on the air.
 use Rattle.std.specs.Prelude.{ℕ, zero, suc, ◌+◌, ◌-◌, List, [], ◌∷◌, ◌++◌, length, set, slice_get, get_or, Bool, true, false, Option, Some, None, if◌then◌else◌}
 use Rattle.nvm_model.specs.Plan.{unarmed}
 use Rattle.nvm_model.specs.SimNvm.{with_cut, with_fault}

@@ -1,5 +1,5 @@
--- The telegrams that nodes put on the air, each sealed under its node's address and next number, and that no two of
--- them have one counter block. This is statement.
+-- Statement: the telegrams that nodes put on the air, each sealed under its node's address and next number, and that
+-- no two of them have one counter block.
 use Rattle.std.specs.Prelude.{◌≡◌, ◌≢◌, ℕ, ◌<◌, ◌^◌, ◌==◌, List, [], ◌∷◌, ◌++◌, length, map, slice_get, get_or, Option, Some, None, if◌then◌else◌}
 use Rattle.std.specs.List.{All, AllPairs}
 use Rattle.knx_ccm.specs.Sealing.{counter_0}

@@ -1,4 +1,4 @@
--- The checks of a telegram, each by itself, and the verdict as the reason of the first that fails.
+-- Statement: the checks of a telegram, each by itself, and the verdict as the reason of the first that fails.
 use Rattle.std.specs.Prelude.{◌≡◌, ℕ, ◌==◌, ◌&&◌, not, List, [], ◌∷◌, ◌++◌, length, slice_index, nat_lt, if◌then◌else◌, Bool, true, false, Option, Some, None, IsSome, option_map, unwrap_or}
 use Rattle.std.specs.Option.{is_some}
 use Rattle.knx_base.specs.declared.address.IndAddr.{IndAddr}

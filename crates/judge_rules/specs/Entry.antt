@@ -1,4 +1,4 @@
--- What a contract sees of a frame that was entered.
+-- Statement: what a contract sees of a frame that was entered.
 use Rattle.std.specs.Prelude.{List}
 use Rattle.cemi_frames.specs.Frames.{Telegram}
 use Rattle.key_tables.specs.declared.types.Row.{Row}

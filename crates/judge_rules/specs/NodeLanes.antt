@@ -1,4 +1,4 @@
--- What a node keeps, it keeps on a lane of its own.
+-- Statement: what a node keeps, it keeps on a lane of its own.
 use Rattle.std.specs.Prelude.{◌≡◌, ℕ, true, List, Option, Some}
 use Rattle.cemi_frames.specs.Frames.{Telegram}
 use Rattle.knx_base.specs.declared.address.GroupAddr.{GroupAddr}

@@ -1,4 +1,4 @@
--- The parts of a secure telegram that its judgement reads.
+-- Statement: the parts of a secure telegram that its judgement reads.
 use Rattle.std.specs.Prelude.{ℕ, ◌/◌, ◌%◌, ◌==◌, List, slice_index, drop, if◌then◌else◌, Bool, Option, Some, None}
 use Rattle.knx_base.specs.declared.address.IndAddr.{IndAddr}
 use Rattle.knx_base.specs.Number.{number_at}

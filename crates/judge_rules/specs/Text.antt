@@ -1,4 +1,4 @@
--- The verdict on a frame as a report prints it.
+-- Statement: the verdict on a frame as a report prints it.
 use Rattle.std.specs.Prelude.{ℕ, ◌/◌, ◌%◌, List, [], ◌∷◌, ◌++◌, drop, codes, Option, Some, None}
 use Rattle.std.specs.Fmt.{decimal}
 use Rattle.hex.specs.Hex.{encode_lower}

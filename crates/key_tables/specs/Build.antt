@@ -1,4 +1,4 @@
--- Which lists of rows are tables, and how two lists are merged.
+-- Statement: which lists of rows are tables, and how two lists are merged.
 use Rattle.std.specs.Prelude.{◌≡◌, ◌≤◌, ℕ, nat_le, not, Bool, true, false, if◌then◌else◌, List, [], ◌++◌, length, Option, Some, None}
 use Rattle.std.specs.Option.{option_or}
 use Rattle.std.specs.List.{list_any, filter, AllPairs}

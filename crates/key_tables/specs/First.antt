@@ -1,4 +1,4 @@
--- The first element of a list that a test refuses, where it is judged by the elements before it.
+-- Statement: the first element of a list that a test refuses, where it is judged by the elements before it.
 use Rattle.std.specs.Prelude.{List, [], ◌∷◌, ◌++◌, Option, None}
 use Rattle.std.specs.Option.{option_or}
 

@@ -1,4 +1,5 @@
--- The rows in the order of their keys: what a row is found by, what stands under it, and how many steps a search takes.
+-- Statement: the rows in the order of their keys: what a row is found by, what stands under it, and how many steps a
+-- search takes.
 use Rattle.std.specs.Prelude.{◌≡◌, ◌≤◌, ◌+◌, ◌*◌, ◌^◌, ◌&&◌, ℕ, Bool, false, List, Option, Some, None}
 use Rattle.std.specs.Option.{unwrap_or}
 use Rattle.std.specs.Ordering.{nat_cmp, ordering_then}

@@ -1,4 +1,4 @@
--- The lanes of a node: which it has, and in what order.
+-- Statement: the lanes of a node: which it has, and in what order.
 use Rattle.std.specs.Prelude.{◌≡◌, ◌==◌, ◌&&◌, ◌||◌, Bool, true, false, if◌then◌else◌, List, [], ◌∷◌, ◌++◌, Option, Some, None, ℕ}
 use Rattle.std.specs.Option.{is_some}
 use Rattle.std.specs.Ordering.{nat_cmp, ordering_then, match_ordering}

@@ -1,4 +1,5 @@
--- What a list of rows says of an installation: keys, levels, roles, and the channel and the lane of a frame.
+-- Statement: what a list of rows says of an installation: keys, levels, roles, and the channel and the lane of a
+-- frame.
 use Rattle.std.specs.Prelude.{◌≡◌, ℕ, ◌==◌, ◌&&◌, ◌||◌, nat_le, Bool, true, false, if◌then◌else◌, List, find, Option, Some, None}
 use Rattle.std.specs.Option.{is_some, option_or, option_and_then}
 use Rattle.std.specs.List.{list_any, Contains}

@@ -1,4 +1,4 @@
--- Which configurations a node may have.
+-- Statement: which configurations a node may have.
 use Rattle.std.specs.Prelude.{◌≡◌, ℕ, nat_lt, if◌then◌else◌, List, [], ◌++◌, length, map, position, Bool, true, false, Option, Some, None, option_map}
 use Rattle.std.specs.Option.{option_or}
 use Rattle.knx_base.specs.declared.address.IndAddr.{IndAddr}

@@ -1,4 +1,4 @@
--- What holds of every transition of a node, and of every configuration.
+-- Statement: what holds of every transition of a node, and of every configuration.
 use Rattle.std.specs.Prelude.{◌≡◌, ◌↔◌, ℕ, ◌<◌, ◌^◌, List, ◌∷◌, slice_index, true, false, Option, Some, None, IfSome}
 use Rattle.std.specs.Option.{is_some}
 use Rattle.cemi_frames.specs.Faults.{frame_fault}

@@ -1,5 +1,5 @@
--- What a node seals, by its kind. Each call says its frame in the definitions of its transition; this ties them to
--- the code.
+-- Statement: what a node seals, by its kind. Each call says its frame in the definitions of its transition; this ties
+-- them to the code.
 use Rattle.std.specs.Prelude.{ℕ, ◌/◌, ◌%◌, ◌≤◌, List, length}
 use Rattle.knx_base.specs.declared.address.IndAddr.{IndAddr}
 use Rattle.secure_apdu.specs.SealedFrame.{sealed_frame}

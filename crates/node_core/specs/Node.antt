@@ -1,4 +1,4 @@
--- What a node shows, and what its calls make of it.
+-- Statement: what a node shows, and what its calls make of it.
 use Rattle.std.specs.Prelude.{◌≡◌, ◌≢◌, ℕ, List, [], length, Bool, true, false, Option, Some, None, Result, Ok, Err}
 use Rattle.nvm_model.specs.declared.fault.NvmFault.{NvmFault}
 use Rattle.seq_store.specs.Store.{store_state, numbers_of}

@@ -1,4 +1,4 @@
--- What a node does with what it receives.
+-- Statement: what a node does with what it receives.
 use Rattle.std.specs.Prelude.{ℕ, ◌+◌, ◌==◌, if◌then◌else◌, List, [], ◌∷◌, slice_get, max, Option, Some, None, option_map, Result, Ok, Err}
 use Rattle.knx_base.specs.declared.address.IndAddr.{IndAddr}
 use Rattle.knx_base.specs.declared.address.GroupAddr.{GroupAddr}

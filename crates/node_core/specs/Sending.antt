@@ -1,4 +1,4 @@
--- What a node sends by itself, and the setting of a value.
+-- Statement: what a node sends by itself, and the setting of a value.
 use Rattle.std.specs.Prelude.{ℕ, ◌^◌, ◌==◌, if◌then◌else◌, List, slice_get, Bool, true, false, Option, Some, None, Result, Ok, Err}
 use Rattle.knx_base.specs.declared.address.IndAddr.{IndAddr}
 use Rattle.knx_base.specs.declared.address.GroupAddr.{GroupAddr}

@@ -1,4 +1,4 @@
--- What a node is, with no memory in it: what never changes of it, and what its calls change.
+-- Statement: what a node is, with no memory in it: what never changes of it, and what its calls change.
 use Rattle.std.specs.Prelude.{ℕ, ◌+◌, List, slice_index, slice_set, position, Option, Some, None}
 use Rattle.knx_base.specs.declared.address.IndAddr.{IndAddr}
 use Rattle.key_tables.specs.declared.types.Lane.{Lane}

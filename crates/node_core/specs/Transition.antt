@@ -1,4 +1,4 @@
--- What a call of a node does, with no memory in it.
+-- Statement: what a call of a node does, with no memory in it.
 use Rattle.std.specs.Prelude.{List, [], ◌++◌, ℕ, Option, None}
 use Rattle.seq_store.specs.Runs.{Raise}
 use Rattle.node_core.specs.Standing.{Standing}

@@ -1,5 +1,5 @@
--- How a line of a script is read by its words, after what the lines before it say. What is refused first is first here:
--- the number of words, the order of kinds, and the words from left to right. This is statement.
+-- Statement: how a line of a script is read by its words, after what the lines before it say. What is refused first
+-- is first here: the number of words, the order of kinds, and the words from left to right.
 use Rattle.std.specs.Prelude.{◌≡◌, ℕ, ◌-◌, ◌^◌, ◌&&◌, nat_lt, if◌then◌else◌, Bool, true, false, List, [], ◌∷◌, length, find, position, codes, Option, Some, None, Result, Ok, Err}
 use Rattle.std.specs.Option.{ok_or}
 use Rattle.knx_base.specs.declared.cause.Cause.{Cause}

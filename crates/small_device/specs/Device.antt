@@ -1,4 +1,4 @@
--- What the calls of a device make of its store, and what they hand out.
+-- Statement: what the calls of a device make of its store, and what they hand out.
 use Rattle.std.specs.Prelude.{◌≡◌, ℕ, ◌+◌, ◌==◌, ◌&&◌, nat_le, Bool, true, false, List, [], ◌∷◌, length, position, slice_index, Option, Some, None, Result, Ok, Err}
 use Rattle.knx_base.specs.declared.address.IndAddr.{IndAddr}
 use Rattle.knx_base.specs.declared.address.GroupAddr.{GroupAddr}

@@ -1,4 +1,4 @@
--- A memory that is a copy of a part's octets.
+-- Plumbing: a memory that is a copy of a part's octets.
 use Rattle.std.specs.Prelude.{ℕ, true, List, None}
 use Rattle.nvm_model.specs.Nvm.{State}
 use Rattle.nvm_model.specs.LastWrite.{IsSinceLast}
