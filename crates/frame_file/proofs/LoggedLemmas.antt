@@ -91,7 +91,7 @@ log_gives seen old new list said at stage_is gives =
             record {
               told = refl;
               counted = counted;
-              others = λ other not_current. refl;
+              others = record { opened = refl; places = λ other not_current. refl };
               goes = λ other. went held;
             },
           )
