@@ -4,6 +4,7 @@ pub mod Firsts
 pub mod FramesReasons
 pub mod KeyringOnce
 pub mod KeyringReasons
+pub mod Opened
 pub mod Ordered
 pub mod Paging
 pub mod Reasons

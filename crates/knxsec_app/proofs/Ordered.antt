@@ -4,7 +4,7 @@ use Rattle.std.specs.Prelude.{MatchResult}
 use Rattle.std.specs.Result.{IsErr}
 use Rattle.knx_base.specs.Files.{File, Seen}
 use Rattle.knxsec_app.specs.Commands.{IsRead}
-use Rattle.knxsec_app.specs.Ends.{OthersStay}
+use Rattle.knxsec_app.specs.Ends.{OpensOne}
 use Rattle.knxsec_app.specs.Order.{AllStay, OnlyIn, ReadsOne, ReadsInOrder, OpensInOrder}
 
 -- the same places at the start
@@ -35,13 +35,14 @@ opens_fewer files (name ∷ names) rest old new (inr (next, reads, others)) =
     inr (next, reads, opens_fewer files names rest next new others)
 
 -- what a call says that reads one file
-pub only_of : (old new : Seen) (name : List ℕ) (told : List File) → old.told ≡ Some told → OthersStay old new name
+pub only_of : (old new : Seen) (name : List ℕ) (told : List File) → old.told ≡ Some told → OpensOne old new name
     → OnlyIn name old.places new.places
-only_of old new name told is stays = stays (subst (λ (o : Option (List File)). IsSome o) (sym is) refl)
+only_of old new name told is opens = λ other differs.
+    (opens (subst (λ (o : Option (List File)). IsSome o) (sym is) refl)).others other (differs, tt)
 
-pub reads_of : (old new : Seen) (name : List ℕ) (told : List File) → old.told ≡ Some told → OthersStay old new name
+pub reads_of : (old new : Seen) (name : List ℕ) (told : List File) → old.told ≡ Some told → OpensOne old new name
     → IsRead told new name → ReadsOne told name old.places new.places
-reads_of old new name told is stays read = record { only = only_of old new name told is stays; end = read }
+reads_of old new name told is opens read = record { only = only_of old new name told is opens; end = read }
 
 -- two files were read, whatever came then
 pub both_read : {T E : Type 0} (files : List File) (first second : List ℕ) (old mid new : List ℕ → ℕ)

@@ -289,7 +289,7 @@ reads_to_end start now later held kept at_start first then_ whole =
           sym (length-drop later.place all) ∙ ap length (whole all (has_same start now [] held 0 first all has)) in
           omega (arith, within, none);
       placed = goes.placed;
-      others = goes.others;
+      others = goes.others.places;
     }
 
 -- ---- what a call for the next record gave

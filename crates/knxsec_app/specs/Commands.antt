@@ -1,5 +1,5 @@
 -- The answer of a whole command, as a function of its words and files.
-use Rattle.std.specs.Prelude.{◌≡◌, ◌≢◌, ℕ, List, [], ◌∷◌, ◌++◌, length, codes, Option, Some, None, unwrap_or, Ok, IsErr}
+use Rattle.std.specs.Prelude.{◌≡◌, ◌≢◌, ℕ, List, [], ◌∷◌, ◌++◌, length, codes, Option, Some, None, unwrap_or, Ok, IsOk, IsErr}
 use Rattle.knx_base.specs.Files.{File, Seen, IsThere, octets_named}
 use Rattle.judge_rules.specs.declared.verdict.Verdict.{Verdict}
 use Rattle.judge_rules.specs.Text.{verdict_text}
@@ -105,25 +105,35 @@ AreRead (Some (Encode dpt text)) files seen = Unit {0}
 abbrev pub Stays : Seen → Seen → List ℕ → Type 0
 Stays old new name = new.places name ≡ old.places name
 
--- After a refusal no further file was opened: the place of each is as before.
+-- this name is none of these
+abbrev pub IsNoneOf : List (List ℕ) → List ℕ → Type 0
+IsNoneOf [] other = Unit {0}
+IsNoneOf (name ∷ names) other = (other ≢ name) × IsNoneOf names other
+
+-- the files of these names were opened, one after the other, and no other: its place is as before
+pub record OpensJust (names : List (List ℕ)) (old new : Seen) : Type 0 where
+  pub opened : new.opened ≡ old.opened ++ names
+  pub others : (other : List ℕ) → IsNoneOf names other → Stays old new other
+
+-- After a refusal the files were opened up to the one that is refused, and no further one.
 abbrev pub AreUnopened : Option Asked → List File → Seen → Seen → Type 0
 AreUnopened None files old new = Unit {0}
 AreUnopened (Some (Open key frame)) files old new = Unit {0}
 AreUnopened (Some (Audit tables frames)) files old new =
-    IsErr (installation None (octets_in files tables)) → (other : List ℕ) → other ≢ tables → Stays old new other
+    IsErr (installation None (octets_in files tables)) → OpensJust (tables ∷ []) old new
 AreUnopened (Some (AuditKeyring keyring password tables frames)) files old new =
-    (IsErr (within Keyring (octets_in files keyring)) → (other : List ℕ) → other ≢ keyring → Stays old new other)
-    × (IsErr (keyring_rows (octets_in files keyring) (octets_in files password)) → (other : List ℕ) → other ≢ keyring
-    → other ≢ password → Stays old new other)
+    (IsErr (within Keyring (octets_in files keyring)) → OpensJust (keyring ∷ []) old new)
+    × (IsOk (within Keyring (octets_in files keyring))
+    → IsErr (keyring_rows (octets_in files keyring) (octets_in files password))
+    → OpensJust (keyring ∷ password ∷ []) old new)
     × ((rows : List Row) → keyring_rows (octets_in files keyring) (octets_in files password) ≡ Ok rows
-    → IsErr (installation (Some rows) (octets_in files tables))
-    → (other : List ℕ) → other ≢ keyring → other ≢ password → other ≢ tables → Stays old new other)
-AreUnopened (Some (Replay script)) files old new = (other : List ℕ) → other ≢ script → Stays old new other
+    → IsErr (installation (Some rows) (octets_in files tables)) → OpensJust (keyring ∷ password ∷ tables ∷ []) old new)
+AreUnopened (Some (Replay script)) files old new = OpensJust (script ∷ []) old new
 AreUnopened (Some (Make number count)) files old new = Unit {0}
 AreUnopened (Some (AuditValues tables types frames)) files old new =
-    (IsErr (installation None (octets_in files tables)) → (other : List ℕ) → other ≢ tables → Stays old new other)
-    × (IsErr (types_in (octets_in files types)) → (other : List ℕ) → other ≢ tables → other ≢ types
-    → Stays old new other)
+    (IsErr (installation None (octets_in files tables)) → OpensJust (tables ∷ []) old new)
+    × (IsOk (installation None (octets_in files tables)) → IsErr (types_in (octets_in files types))
+    → OpensJust (tables ∷ types ∷ []) old new)
 AreUnopened (Some (Encode dpt text)) files old new = Unit {0}
 
 -- the report was written to its end after all files were read

@@ -1,12 +1,12 @@
 -- How a status came about, where files were read and a report was written.
-use Rattle.std.specs.Prelude.{◌≡◌, ◌≢◌, ◌⊎◌, ℕ, ◌≤◌, List, length, Option, Some, IsSome, Result, Ok, Err}
+use Rattle.std.specs.Prelude.{◌≡◌, ◌≢◌, ◌⊎◌, ℕ, ◌≤◌, List, [], ◌∷◌, length, Option, Some, IsSome, Result, Ok, Err}
 use Rattle.knx_base.specs.Faults.{Rose}
 use Rattle.knx_base.specs.Files.{Seen}
 use Rattle.text_lines.specs.Reading.{WhereTold}
 use Rattle.knxsec_app.specs.declared.status.Status.{Status}
 use Rattle.knxsec_app.specs.declared.status.Status.TheVariants.{Done, Usage, ReadFault, WriteFault, NoMemory}
 use Rattle.knxsec_app.specs.Answer.{Answer, Answers}
-use Rattle.knxsec_app.specs.Commands.{IsServed, Stays}
+use Rattle.knxsec_app.specs.Commands.{IsServed, OpensJust}
 
 -- A fault of reading or of writing is answered only where its count rose, and neither count falls. The files' count
 -- rises only where a fault of reading is answered, and the sink's only where one of the two is: all else was answered
@@ -68,6 +68,6 @@ Stops expected status old new =
     ((IsServed status → ⊥) × (new ≡ old)) ⊎ ((refusal : Answer) × (expected ≡ Err refusal)
     × Answers refusal status old new)
 
--- no other file was opened or read
-abbrev pub OthersStay : Seen → Seen → List ℕ → Type 0
-OthersStay old new name = IsSome old.told → (other : List ℕ) → other ≢ name → Stays old new other
+-- the file of this name was opened, once, and no other
+abbrev pub OpensOne : Seen → Seen → List ℕ → Type 0
+OpensOne old new name = IsSome old.told → OpensJust (name ∷ []) old new

@@ -1,9 +1,9 @@
 -- In which order a command opens the files that it names.
-use Rattle.std.specs.Prelude.{◌≡◌, ◌≢◌, ◌⊎◌, ℕ, List, [], ◌∷◌, length, Option, Some, None}
+use Rattle.std.specs.Prelude.{◌≡◌, ◌≢◌, ◌⊎◌, ℕ, List, [], ◌∷◌, ◌++◌, length, Option, Some, None, IsSome}
 use Rattle.knx_base.specs.Files.{File, Seen}
 use Rattle.knxsec_app.specs.declared.status.Status.{Status}
 use Rattle.knxsec_app.specs.Words.{Asked, Open, Audit, AuditKeyring, Replay, Make, AuditValues, Encode}
-use Rattle.knxsec_app.specs.Commands.{octets_in, AreFiles, AreRead, AreUnopened, IsServed, IsWhole}
+use Rattle.knxsec_app.specs.Commands.{octets_in, AreFiles, AreRead, AreUnopened, IsServed, IsWhole, OpensJust}
 
 -- the names of the files, in the order of the words
 abbrev pub files_of : Option Asked → List (List ℕ)
@@ -42,11 +42,26 @@ OpensInOrder files [] old new = AllStay old new
 OpensInOrder files (name ∷ names) old new =
     OnlyIn name old new ⊎ ((mid : List ℕ → ℕ) × ReadsOne files name old mid × OpensInOrder files names mid new)
 
--- What a command does with the files, and how it ended. Whatever the status, they tell the same and were opened in the
--- order of the words; with Done and Alarm each was read to its end, and after a refusal no further one was opened,
--- whether or not its line could be written.
-pub record UsesFiles (asked : Option Asked) (status : Status) (old new : Seen) : Type 0 where
+-- some of these files, from the first on, were opened, one after the other, and no other
+pub record OpensFront (names : List (List ℕ)) (old new : Seen) : Type 0 where
+  pub front : List (List ℕ)
+  pub rest : List (List ℕ)
+  pub names_are : names ≡ front ++ rest
+  pub opens : OpensJust front old new
+
+-- Which files were opened where the files of these names were asked for: whatever the status a front of them, so that
+-- none is opened twice that is not named twice; with Done and Alarm all of them.
+pub record OpensFiles (names : List (List ℕ)) (status : Status) (old new : Seen) : Type 0 where
   pub told : new.told ≡ old.told
+  pub front : IsSome old.told → OpensFront names old new
+  pub all : IsWhole status → IsSome old.told → OpensJust names old new
+
+-- What a command does with the files, and how it ended. Whatever the status, they tell the same, and a front of those
+-- that the words name was opened and no other, in the order of the words, each after the one before was read to its end.
+-- With Done and Alarm all were opened and each was read to its end; after a refusal those up to the refused one and no
+-- further, whether or not its line could be written.
+pub record UsesFiles (asked : Option Asked) (status : Status) (old new : Seen) : Type 0 where
+  pub opens : OpensFiles (files_of asked) status old new
   pub order : (files : List File) → AreFiles asked old files
       → OpensInOrder files (files_of asked) old.places new.places
   pub whole : IsWhole status → (files : List File) → AreFiles asked old files → AreRead asked files new

@@ -8,9 +8,9 @@ ghost use Rattle.frame_file.specs.Records.{records_of};
 ghost use Rattle.knxsec_app.specs.Answer.{Answers};
 ghost use Rattle.knxsec_app.specs.Auditing.{frames_answer, installation, laid_over, rows_in, tables_answer, unless_many};
 ghost use Rattle.knxsec_app.specs.Asked.{rows_of};
-ghost use Rattle.knxsec_app.specs.Commands.{octets_in, IsRead, IsServed, IsWhole, Stays};
-ghost use Rattle.knxsec_app.specs.Ends.{EndsReading, EndsTelling, OthersStay, ReadsToEnd, Stops, status_of};
-ghost use Rattle.knxsec_app.specs.Order.{OpensInOrder};
+ghost use Rattle.knxsec_app.specs.Commands.{octets_in, IsRead, IsServed, IsWhole, OpensJust};
+ghost use Rattle.knxsec_app.specs.Ends.{EndsReading, EndsTelling, OpensOne, ReadsToEnd, Stops, status_of};
+ghost use Rattle.knxsec_app.specs.Order.{OpensFiles, OpensInOrder};
 
 use crate::Status;
 use crate::page::Page;
@@ -41,15 +41,12 @@ pub(crate) fn audit<F: Files, S: Sink>(
         (S.octets out.old) (S.octets out.new) }
     ensures whole { IsWhole result → (told : List File) → (F.seen files.old).told ≡ Some told
         → IsRead told (F.seen files.new) tables.now × IsRead told (F.seen files.new) frames.now }
-    ensures others { IsWhole result → IsSome (F.seen files.old).told → (other : List ℕ) → other ≢ tables.now
-        → other ≢ frames.now
-        → Stays (F.seen files.old) (F.seen files.new) other }
     ensures order { (told : List File) → (F.seen files.old).told ≡ Some told
         → OpensInOrder told (tables.now ∷ frames.now ∷ []) (F.seen files.old).places (F.seen files.new).places }
     ensures unopened { IsServed result → (told : List File) → (F.seen files.old).told ≡ Some told
-        → IsErr (installation (rows_of under.entry) (octets_in told tables.now)) → (other : List ℕ) → other ≢ tables.now
-        → Stays (F.seen files.old) (F.seen files.new) other }
-    ensures told { (F.seen files.new).told ≡ (F.seen files.old).told }
+        → IsErr (installation (rows_of under.entry) (octets_in told tables.now))
+        → OpensJust (tables.now ∷ []) (F.seen files.old) (F.seen files.new) }
+    ensures opens { OpensFiles (tables.now ∷ frames.now ∷ []) result (F.seen files.old) (F.seen files.new) }
     ensures ends { EndsReading (F.seen files.old) (F.seen files.new) (S.faults out.old) (S.faults out.new) result }
 {
     match read_installation(alloc, tables, under, files, out) {
@@ -74,7 +71,7 @@ pub(crate) fn read_installation<F: Files, S: Sink>(
     ensures read { IsOk result → (told : List File) → (F.seen files.old).told ≡ Some told
         → IsRead told (F.seen files.new) name.now }
     ensures told { (F.seen files.new).told ≡ (F.seen files.old).told }
-    ensures others { OthersStay (F.seen files.old) (F.seen files.new) name.now }
+    ensures opens { OpensOne (F.seen files.old) (F.seen files.new) name.now }
     ensures unwritten { OnOk result (out.new ≡ out.old) }
     ensures not_whole { IfErr result (λ status. IsWhole status → ⊥) }
     ensures ends { EndsReading (F.seen files.old) (F.seen files.new) (S.faults out.old) (S.faults out.new)
@@ -160,7 +157,7 @@ pub(crate) fn audit_frames<F: Files, S: Sink, W: Showing>(
         (S.octets out.new) }
     ensures whole { IsWhole result → (octets : List ℕ) → Holds (F.seen files.old) frames.now octets
         → (F.seen files.new).places frames.now ≡ length octets }
-    ensures others { OthersStay (F.seen files.old) (F.seen files.new) frames.now }
+    ensures opens { OpensOne (F.seen files.old) (F.seen files.new) frames.now }
     ensures told { (F.seen files.new).told ≡ (F.seen files.old).told }
     ensures ends { EndsReading (F.seen files.old) (F.seen files.new) (S.faults out.old) (S.faults out.new) result }
 {

@@ -5,9 +5,9 @@ ghost use Rattle.keyring_reader.specs.Keyring.{keyring_of};
 ghost use Rattle.knxsec_app.specs.declared.whole_file.WholeFile;
 ghost use Rattle.knxsec_app.specs.Answer.{Answers};
 ghost use Rattle.knxsec_app.specs.Auditing.{keyring_answer, keyring_rows, keyring_told, password_of, within};
-ghost use Rattle.knxsec_app.specs.Commands.{octets_in, AreUnopened, IsRead, IsServed, IsWhole, Stays};
-ghost use Rattle.knxsec_app.specs.Ends.{EndsReading, EndsTelling, OthersStay, Stops, status_of};
-ghost use Rattle.knxsec_app.specs.Order.{OpensInOrder, ReadsInOrder};
+ghost use Rattle.knxsec_app.specs.Commands.{octets_in, AreUnopened, IsRead, IsServed, IsWhole, OpensJust};
+ghost use Rattle.knxsec_app.specs.Ends.{EndsReading, EndsTelling, Stops, status_of};
+ghost use Rattle.knxsec_app.specs.Order.{OpensFiles, OpensInOrder, ReadsInOrder};
 ghost use Rattle.knxsec_app.specs.Words.{AuditKeyring};
 
 use crate::Status;
@@ -43,7 +43,8 @@ pub(crate) fn audit_by_keyring<F: Files, S: Sink>(
     ensures order { (told : List File) → (F.seen files.old).told ≡ Some told
         → OpensInOrder told (names.now.keyring.now ∷ names.now.password.now ∷ names.now.tables.now
         ∷ names.now.frames.now ∷ []) (F.seen files.old).places (F.seen files.new).places }
-    ensures told { (F.seen files.new).told ≡ (F.seen files.old).told }
+    ensures opens { OpensFiles (names.now.keyring.now ∷ names.now.password.now ∷ names.now.tables.now
+        ∷ names.now.frames.now ∷ []) result (F.seen files.old) (F.seen files.new) }
     ensures ends { EndsReading (F.seen files.old) (F.seen files.new) (S.faults out.old) (S.faults out.new) result }
 {
     match open_keyring(alloc, names, files, out) {
@@ -75,7 +76,8 @@ fn open_keyring<F: Files, S: Sink>(
         status (S.octets out.old) (S.octets out.new)) }
     ensures read { IsOk result → (told : List File) → (F.seen files.old).told ≡ Some told
         → IsRead told (F.seen files.new) names.now.keyring.now × IsRead told (F.seen files.new) names.now.password.now }
-    ensures told { (F.seen files.new).told ≡ (F.seen files.old).told }
+    ensures opens { OpensFiles (names.now.keyring.now ∷ names.now.password.now ∷ []) (status_of result)
+        (F.seen files.old) (F.seen files.new) }
     ensures order { (told : List File) → (F.seen files.old).told ≡ Some told
         → MatchResult result
         (λ _. ReadsInOrder told (names.now.keyring.now ∷ names.now.password.now ∷ []) (F.seen files.old).places
@@ -83,8 +85,10 @@ fn open_keyring<F: Files, S: Sink>(
         (λ _. OpensInOrder told (names.now.keyring.now ∷ names.now.password.now ∷ []) (F.seen files.old).places
         (F.seen files.new).places) }
     ensures unopened { IsServed (status_of result) → (told : List File) → (F.seen files.old).told ≡ Some told
-        → IsErr (within WholeFile.Keyring (octets_in told names.now.keyring.now)) → (other : List ℕ)
-        → other ≢ names.now.keyring.now → Stays (F.seen files.old) (F.seen files.new) other }
+        → (IsErr (within WholeFile.Keyring (octets_in told names.now.keyring.now))
+        → OpensJust (names.now.keyring.now ∷ []) (F.seen files.old) (F.seen files.new))
+        × (IsOk (within WholeFile.Keyring (octets_in told names.now.keyring.now))
+        → OpensJust (names.now.keyring.now ∷ names.now.password.now ∷ []) (F.seen files.old) (F.seen files.new)) }
     ensures unwritten { OnOk result (out.new ≡ out.old) }
     ensures not_whole { IfErr result (λ status. IsWhole status → ⊥) }
     ensures ends { EndsReading (F.seen files.old) (F.seen files.new) (S.faults out.old) (S.faults out.new)

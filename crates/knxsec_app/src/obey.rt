@@ -5,7 +5,7 @@ ghost use Rattle.knxsec_app.specs.Answer.{Answers};
 ghost use Rattle.knxsec_app.specs.Asked.{asked_of};
 ghost use Rattle.knxsec_app.specs.Commands.{answer_to, AreFiles, AreRead, AreThere, AreUnopened, IsServed, IsWhole, LeavesAlone, Plays};
 ghost use Rattle.knxsec_app.specs.Ends.{EndsReading, EndsWriting};
-ghost use Rattle.knxsec_app.specs.Order.{OpensInOrder, files_of};
+ghost use Rattle.knxsec_app.specs.Order.{OpensFiles, OpensInOrder, files_of};
 
 use crate::Status;
 use crate::auditing::audit;
@@ -39,7 +39,7 @@ pub(crate) fn obey<F: Files, S: Sink>(
     ensures order { (told : List File) → AreFiles (Some (asked_of command.now)) (F.seen files.old) told
         → OpensInOrder told (files_of (Some (asked_of command.now))) (F.seen files.old).places
         (F.seen files.new).places }
-    ensures told { (F.seen files.new).told ≡ (F.seen files.old).told }
+    ensures opens { OpensFiles (files_of (Some (asked_of command.now))) result (F.seen files.old) (F.seen files.new) }
     ensures ends { EndsReading (F.seen files.old) (F.seen files.new) (S.faults out.old) (S.faults out.new) result }
     ensures alone { LeavesAlone (Some (asked_of command.now)) result (files.new ≡ files.old) }
     ensures played { Plays (Some (asked_of command.now)) (F.seen files.old) result played.old played.new }

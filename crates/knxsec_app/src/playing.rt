@@ -11,7 +11,7 @@ ghost use Rattle.install_run.specs.Summary.{summary_text};
 ghost use Rattle.install_run.specs.World.{WorldState};
 ghost use Rattle.knxsec_app.specs.Answer.{Answer, Answers};
 ghost use Rattle.knxsec_app.specs.Commands.{octets_in, IsRead, IsWhole};
-ghost use Rattle.knxsec_app.specs.Ends.{EndsReading, EndsTelling, EndsWriting, OthersStay, Stops, status_of};
+ghost use Rattle.knxsec_app.specs.Ends.{EndsReading, EndsTelling, EndsWriting, OpensOne, Stops, status_of};
 ghost use Rattle.knxsec_app.specs.Page.{Passes};
 ghost use Rattle.knxsec_app.specs.Replaying.{HasPlayed, IsPlayed, make_answer, replay_answer, run_answer, script_in, script_told, summary_of};
 
@@ -42,7 +42,7 @@ pub(crate) fn replay<F: Files, S: Sink>(
     ensures read { IsWhole result → (told : List File) → (F.seen files.old).told ≡ Some told
         → IsRead told (F.seen files.new) script.now }
     ensures told { (F.seen files.new).told ≡ (F.seen files.old).told }
-    ensures others { OthersStay (F.seen files.old) (F.seen files.new) script.now }
+    ensures opens { OpensOne (F.seen files.old) (F.seen files.new) script.now }
     ensures played { result ≡ Status.Done → (told : List File) → (F.seen files.old).told ≡ Some told
         → (s : ScriptState) × (script_in (octets_in told script.now) ≡ Ok s) × IsPlayed s played.new }
     ensures unplayed { result ≢ Status.Done → played.new ≡ played.old }
@@ -69,7 +69,7 @@ fn read_named<F: Files, S: Sink>(
     ensures read { IsOk result → (told : List File) → (F.seen files.old).told ≡ Some told
         → IsRead told (F.seen files.new) name.now }
     ensures told { (F.seen files.new).told ≡ (F.seen files.old).told }
-    ensures others { OthersStay (F.seen files.old) (F.seen files.new) name.now }
+    ensures opens { OpensOne (F.seen files.old) (F.seen files.new) name.now }
     ensures unwritten { OnOk result (out.new ≡ out.old) }
     ensures not_whole { IfErr result (λ status. IsWhole status → ⊥) }
     ensures ends { EndsReading (F.seen files.old) (F.seen files.new) (S.faults out.old) (S.faults out.new)

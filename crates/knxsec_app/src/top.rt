@@ -46,8 +46,9 @@ pub fn run<F: Files, S: Sink>(
     ensures answer { (told : List File) → AreFiles (command_of (map string_bytes words.now)) (F.seen files.old) told
         → Answers (answer_of (map string_bytes words.now) told) result (S.octets out.old) (S.octets out.new) }
 
-    // The files are opened in the order of the words, each after the one before was read to its end: with Done and
-    // Alarm all of them, after a refusal none that stands behind it.
+    // Where the files tell their names, none is opened but those that the words name, in their order from the first on,
+    // each after the one before was read to its end: none is opened twice that is not named twice. With Done and Alarm
+    // all of them are opened and read to their ends; after a refusal those up to the refused one, and no further.
     ensures files { UsesFiles (command_of (map string_bytes words.now)) result (F.seen files.old) (F.seen files.new) }
 
     // No text is refused for a reason without words, and of merged rows none is said twice: they are too many.

@@ -3,9 +3,9 @@ ghost use Rattle.std.specs.Option.{ForSome};
 ghost use Rattle.knx_base.specs.Files.{File, IsThere};
 ghost use Rattle.datapoints.specs.Types.{types_of};
 ghost use Rattle.knxsec_app.specs.Answer.{Answers};
-ghost use Rattle.knxsec_app.specs.Commands.{octets_in, AreUnopened, IsRead, IsServed, IsWhole, Stays};
-ghost use Rattle.knxsec_app.specs.Ends.{EndsReading, EndsTelling, OthersStay, Stops, status_of};
-ghost use Rattle.knxsec_app.specs.Order.{OpensInOrder};
+ghost use Rattle.knxsec_app.specs.Commands.{octets_in, AreUnopened, IsRead, IsServed, IsWhole, OpensJust};
+ghost use Rattle.knxsec_app.specs.Ends.{EndsReading, EndsTelling, OpensOne, Stops, status_of};
+ghost use Rattle.knxsec_app.specs.Order.{OpensFiles, OpensInOrder};
 ghost use Rattle.knxsec_app.specs.Values.{typed_answer, types_in, types_told, values_answer};
 ghost use Rattle.knxsec_app.specs.Words.{AuditValues};
 
@@ -40,7 +40,8 @@ pub(crate) fn audit_values<F: Files, S: Sink>(
     ensures order { (told : List File) → (F.seen files.old).told ≡ Some told
         → OpensInOrder told (names.now.tables.now ∷ names.now.types.now ∷ names.now.frames.now ∷ [])
         (F.seen files.old).places (F.seen files.new).places }
-    ensures told { (F.seen files.new).told ≡ (F.seen files.old).told }
+    ensures opens { OpensFiles (names.now.tables.now ∷ names.now.types.now ∷ names.now.frames.now ∷ []) result
+        (F.seen files.old) (F.seen files.new) }
     ensures ends { EndsReading (F.seen files.old) (F.seen files.new) (S.faults out.old) (S.faults out.new) result }
 {
     match read_installation(alloc, names.tables, None, files, out) {
@@ -64,15 +65,12 @@ fn audit_typed<F: Files, S: Sink>(
         (S.octets out.old) (S.octets out.new) }
     ensures whole { IsWhole result → (told : List File) → (F.seen files.old).told ≡ Some told
         → IsRead told (F.seen files.new) types.now × IsRead told (F.seen files.new) frames.now }
-    ensures others { IsWhole result → IsSome (F.seen files.old).told → (other : List ℕ) → other ≢ types.now
-        → other ≢ frames.now
-        → Stays (F.seen files.old) (F.seen files.new) other }
     ensures order { (told : List File) → (F.seen files.old).told ≡ Some told
         → OpensInOrder told (types.now ∷ frames.now ∷ []) (F.seen files.old).places (F.seen files.new).places }
     ensures unopened { IsServed result → (told : List File) → (F.seen files.old).told ≡ Some told
-        → IsErr (types_in (octets_in told types.now)) → (other : List ℕ) → other ≢ types.now
-        → Stays (F.seen files.old) (F.seen files.new) other }
-    ensures told { (F.seen files.new).told ≡ (F.seen files.old).told }
+        → IsErr (types_in (octets_in told types.now))
+        → OpensJust (types.now ∷ []) (F.seen files.old) (F.seen files.new) }
+    ensures opens { OpensFiles (types.now ∷ frames.now ∷ []) result (F.seen files.old) (F.seen files.new) }
     ensures ends { EndsReading (F.seen files.old) (F.seen files.new) (S.faults out.old) (S.faults out.new) result }
 {
     match open_types(alloc, types, files, out) {
@@ -95,7 +93,7 @@ fn open_types<F: Files, S: Sink>(
     ensures read { IsOk result → (told : List File) → (F.seen files.old).told ≡ Some told
         → IsRead told (F.seen files.new) name.now }
     ensures told { (F.seen files.new).told ≡ (F.seen files.old).told }
-    ensures others { OthersStay (F.seen files.old) (F.seen files.new) name.now }
+    ensures opens { OpensOne (F.seen files.old) (F.seen files.new) name.now }
     ensures unwritten { OnOk result (out.new ≡ out.old) }
     ensures not_whole { IfErr result (λ status. IsWhole status → ⊥) }
     ensures ends { EndsReading (F.seen files.old) (F.seen files.new) (S.faults out.old) (S.faults out.new)

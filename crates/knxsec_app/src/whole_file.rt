@@ -3,7 +3,7 @@ ghost use Rattle.std.specs.Option.{ForSome};
 ghost use Rattle.knx_base.specs.Files.{File, IsThere};
 ghost use Rattle.knxsec_app.specs.Auditing.{word_of, most_of, within, unread_status};
 ghost use Rattle.knxsec_app.specs.Commands.{octets_in, IsRead, IsWhole};
-ghost use Rattle.knxsec_app.specs.Ends.{EndsReading, OthersStay, Stops, status_of};
+ghost use Rattle.knxsec_app.specs.Ends.{EndsReading, OpensOne, Stops, status_of};
 
 use crate::Status;
 use crate::refusing::refuse_whole;
@@ -64,7 +64,7 @@ impl WholeFile {
         ensures read { IsOk result → (told : List File) → (F.seen files.old).told ≡ Some told
             → IsRead told (F.seen files.new) name.now }
         ensures told { (F.seen files.new).told ≡ (F.seen files.old).told }
-        ensures others { OthersStay (F.seen files.old) (F.seen files.new) name.now }
+        ensures opens { OpensOne (F.seen files.old) (F.seen files.new) name.now }
         ensures unwritten { OnOk result (out.new ≡ out.old) }
         ensures not_whole { IfErr result (λ status. IsWhole status → ⊥) }
         ensures ends { EndsReading (F.seen files.old) (F.seen files.new) (S.faults out.old) (S.faults out.new)

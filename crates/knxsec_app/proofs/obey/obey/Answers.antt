@@ -1,9 +1,10 @@
-use Rattle.std.proofs.Common.{Some, inl, sym, subst}
+use Rattle.std.proofs.Common.{Some, [], ◌∷◌, inl, sym, subst}
 use Rattle.knx_base.specs.Files.{Seen}
 use Rattle.knxsec_app.specs.Answer.{Answers}
 use Rattle.knxsec_app.specs.Asked.{asked_of}
 use Rattle.knxsec_app.specs.Commands.{answer_to, AreFiles, AreThere, AreUnopened}
-use Rattle.knxsec_app.specs.Order.{OpensInOrder, files_of}
+use Rattle.knxsec_app.specs.Order.{OpensFiles, OpensInOrder, files_of}
+use Rattle.knxsec_app.proofs.Opened.{opens_all, opens_none}
 use Rattle.knxsec_app.proofs.Ordered.{only_of}
 use Rattle.knxsec_app.proofs.obey.obey.Goals as goal
 
@@ -78,7 +79,7 @@ returns-in-Replay-clause-order g c told are =
     subst (λ command. OpensInOrder told (files_of (Some (asked_of command))) old.places new.places)
     (sym c.in-Replay.is)
     (inl (only_of old new c.in-Replay.script.now told
-    (subst (λ command. AreFiles (Some (asked_of command)) old told) c.in-Replay.is are) c.replay.ensures.others))
+    (subst (λ command. AreFiles (Some (asked_of command)) old told) c.in-Replay.is are) c.replay.ensures.opens))
 
 pub audit_values-requires : goal.audit_values-requires
 audit_values-requires g c = record {
@@ -108,3 +109,49 @@ returns-in-AuditValues-clause-order g c told are =
     (sym c.in-AuditValues.is)
     (c.audit_values.ensures.order told
     (subst (λ command. AreFiles (Some (asked_of command)) old told) c.in-AuditValues.is are))
+
+pub returns-in-Audit-clause-opens : goal.returns-in-Audit-clause-opens
+returns-in-Audit-clause-opens g c =
+    let old : Seen = g.F.Files.seen c.args.files.now in
+    let new : Seen = g.F.Files.seen c.audit.new.files in
+    subst (λ command. OpensFiles (files_of (Some (asked_of command))) c.audit.result old new) (sym c.in-Audit.is)
+    c.audit.ensures.opens
+
+pub returns-in-AuditKeyring-clause-opens : goal.returns-in-AuditKeyring-clause-opens
+returns-in-AuditKeyring-clause-opens g c =
+    let old : Seen = g.F.Files.seen c.args.files.now in
+    let new : Seen = g.F.Files.seen c.audit_by_keyring.new.files in
+    subst (λ command. OpensFiles (files_of (Some (asked_of command))) c.audit_by_keyring.result old new) (sym c.in-AuditKeyring.is)
+    c.audit_by_keyring.ensures.opens
+
+pub returns-in-AuditValues-clause-opens : goal.returns-in-AuditValues-clause-opens
+returns-in-AuditValues-clause-opens g c =
+    let old : Seen = g.F.Files.seen c.args.files.now in
+    let new : Seen = g.F.Files.seen c.audit_values.new.files in
+    subst (λ command. OpensFiles (files_of (Some (asked_of command))) c.audit_values.result old new) (sym c.in-AuditValues.is)
+    c.audit_values.ensures.opens
+
+pub returns-in-Replay-clause-opens : goal.returns-in-Replay-clause-opens
+returns-in-Replay-clause-opens g c =
+    let old : Seen = g.F.Files.seen c.args.files.now in
+    let new : Seen = g.F.Files.seen c.replay.new.files in
+    subst (λ command. OpensFiles (files_of (Some (asked_of command))) c.replay.result old new) (sym c.in-Replay.is)
+    (opens_all (c.in-Replay.script.now ∷ []) c.replay.result old new c.replay.ensures.told c.replay.ensures.opens)
+
+pub returns-in-Open-clause-opens : goal.returns-in-Open-clause-opens
+returns-in-Open-clause-opens g c =
+    let seen : Seen = g.F.Files.seen c.args.files.now in
+    subst (λ command. OpensFiles (files_of (Some (asked_of command))) c.open.result seen seen) (sym c.in-Open.is)
+    (opens_none c.open.result seen)
+
+pub returns-in-Make-clause-opens : goal.returns-in-Make-clause-opens
+returns-in-Make-clause-opens g c =
+    let seen : Seen = g.F.Files.seen c.args.files.now in
+    subst (λ command. OpensFiles (files_of (Some (asked_of command))) c.make.result seen seen) (sym c.in-Make.is)
+    (opens_none c.make.result seen)
+
+pub returns-in-Encode-clause-opens : goal.returns-in-Encode-clause-opens
+returns-in-Encode-clause-opens g c =
+    let seen : Seen = g.F.Files.seen c.args.files.now in
+    subst (λ command. OpensFiles (files_of (Some (asked_of command))) c.encode.result seen seen) (sym c.in-Encode.is)
+    (opens_none c.encode.result seen)

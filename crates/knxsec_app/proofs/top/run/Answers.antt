@@ -1,4 +1,5 @@
 use Rattle.std.proofs.Common.{refl}
+use Rattle.knxsec_app.proofs.Opened.{opens_none}
 use Rattle.knxsec_app.proofs.Reasons.{have_reasons}
 use Rattle.knxsec_app.proofs.top.run.Goals as goal
 
@@ -7,7 +8,7 @@ returns-in-None-clause-answer g c = λ told are. rw (← c.in-None.ensures.asked
 
 pub returns-in-None-clause-files : goal.returns-in-None-clause-files
 returns-in-None-clause-files g c = rw (← c.in-None.ensures.asked) (record {
-  told = refl;
+  opens = opens_none c.print_usage.result (g.F.Files.seen c.args.files.now);
   order = λ files are other. refl;
   whole = λ is_whole files are. tt;
   unopened = λ is_served files are. tt;
@@ -18,7 +19,7 @@ returns-in-None-clause-reasons g c = have_reasons
 
 pub returns-in-Some-clause-files : goal.returns-in-Some-clause-files
 returns-in-Some-clause-files g c = rw (← c.in-Some.ensures.asked) (record {
-  told = c.obey.ensures.told;
+  opens = c.obey.ensures.opens;
   order = c.obey.ensures.order;
   whole = c.obey.ensures.whole;
   unopened = c.obey.ensures.unopened;
