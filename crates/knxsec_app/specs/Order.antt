@@ -57,9 +57,9 @@ pub record OpensFiles (names : List (List ℕ)) (status : Status) (old new : See
   pub all : IsWhole status → IsSome old.told → OpensJust names old new
 
 -- What a command does with the files, and how it ended. Whatever the status, they tell the same, and a front of those
--- that the words name was opened and no other, in the order of the words, each after the one before was read to its end.
--- With Done and Alarm all were opened and each was read to its end; after a refusal those up to the refused one and no
--- further, whether or not its line could be written.
+-- that the words name was opened and no other, in the order of the words, each after the one before was read to its
+-- end. With Done and Alarm all were opened and each was read to its end; after a refusal those up to the refused one
+-- and no further, whether or not its line could be written.
 pub record UsesFiles (asked : Option Asked) (status : Status) (old new : Seen) : Type 0 where
   pub opens : OpensFiles (files_of asked) status old new
   pub order : (files : List File) → AreFiles asked old files

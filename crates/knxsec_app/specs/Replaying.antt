@@ -1,8 +1,6 @@
 -- What a replay answers: how an installation goes through the events of a script. This is statement.
-use Rattle.std.specs.Prelude.{◌≡◌, ◌≢◌, ℕ, List, codes, Option, Some, Result, Ok, Err}
-use Rattle.key_tables.specs.declared.types.Row.{Row}
+use Rattle.std.specs.Prelude.{◌≡◌, ℕ, List, codes, Option, Some, Result, Ok, Err}
 use Rattle.script_text.specs.declared.fault.ScriptFault.{ScriptFault}
-use Rattle.script_text.specs.declared.node_row.NodeRow.{NodeRow}
 use Rattle.script_text.specs.Script.{ScriptState}
 use Rattle.script_text.specs.Text.{script_of}
 use Rattle.script_text.specs.Made.{made_script}
@@ -14,7 +12,6 @@ use Rattle.install_run.specs.Runs.{world_after, history_of}
 use Rattle.install_run.specs.Report.{run_text}
 use Rattle.install_run.specs.Summary.{summary_text}
 use Rattle.install_run.specs.World.{WorldState}
-use Rattle.knxsec_app.specs.declared.status.Status.{Status}
 use Rattle.knxsec_app.specs.declared.status.Status.TheVariants.{Done}
 use Rattle.knxsec_app.specs.declared.whole_file.WholeFile.TheVariants.{Script}
 use Rattle.knxsec_app.specs.Answer.{Answer, ◌>>=◌, answer_from}

@@ -1,9 +1,6 @@
-use Rattle.std.proofs.Common.{rules, arith, ◌+◌, [], ap, sym, subst, ◌∙◌}
+use Rattle.std.proofs.Common.{rules, arith, ◌+◌, ap, sym, ◌∙◌}
 use Rattle.knx_base.specs.Files.{Seen}
 use Rattle.text_lines.proofs.Readers.{goes_then, others_then, takes_less}
-use Rattle.knxsec_app.specs.Answer.{Answers}
-use Rattle.frame_file.specs.Records.{records_of}
-use Rattle.knxsec_app.specs.Auditing.{frames_answer}
 use Rattle.knxsec_app.proofs.SoFar.{goes_on, wants_memory, stops_at_line, finishes, refuses, reads_to_end, some_given, none_given, fault_given, gives_told, gives_others, first_left, few_given}
 use Rattle.knxsec_app.proofs.auditing.audit_current.Goals as goal
 

@@ -121,15 +121,15 @@ pub returns-in-AuditKeyring-clause-opens : goal.returns-in-AuditKeyring-clause-o
 returns-in-AuditKeyring-clause-opens g c =
     let old : Seen = g.F.Files.seen c.args.files.now in
     let new : Seen = g.F.Files.seen c.audit_by_keyring.new.files in
-    subst (λ command. OpensFiles (files_of (Some (asked_of command))) c.audit_by_keyring.result old new) (sym c.in-AuditKeyring.is)
-    c.audit_by_keyring.ensures.opens
+    subst (λ command. OpensFiles (files_of (Some (asked_of command))) c.audit_by_keyring.result old new)
+    (sym c.in-AuditKeyring.is) c.audit_by_keyring.ensures.opens
 
 pub returns-in-AuditValues-clause-opens : goal.returns-in-AuditValues-clause-opens
 returns-in-AuditValues-clause-opens g c =
     let old : Seen = g.F.Files.seen c.args.files.now in
     let new : Seen = g.F.Files.seen c.audit_values.new.files in
-    subst (λ command. OpensFiles (files_of (Some (asked_of command))) c.audit_values.result old new) (sym c.in-AuditValues.is)
-    c.audit_values.ensures.opens
+    subst (λ command. OpensFiles (files_of (Some (asked_of command))) c.audit_values.result old new)
+    (sym c.in-AuditValues.is) c.audit_values.ensures.opens
 
 pub returns-in-Replay-clause-opens : goal.returns-in-Replay-clause-opens
 returns-in-Replay-clause-opens g c =

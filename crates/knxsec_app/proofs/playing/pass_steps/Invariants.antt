@@ -1,4 +1,4 @@
-use Rattle.std.proofs.Common.{◌≡◌, ◌≤◌, drop, length}
+use Rattle.std.proofs.Common.{◌≡◌, drop, length}
 use Rattle.std.specs.List.{enumerate_from}
 use Rattle.install_run.specs.Report.{numbered_line}
 use Rattle.knxsec_app.proofs.Paging.{IsPassed}
