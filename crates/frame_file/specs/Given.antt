@@ -1,5 +1,5 @@
--- The answers of a call for the next record, and the state that its value ends as, since the record is borrowed from
--- it.
+-- Statement: the answers of a call for the next record, and the state that its value ends as, since the record is
+-- borrowed from it.
 use Rattle.std.specs.Prelude.{Option, Some, None, Result, Ok, Err, ⊤}
 use Rattle.std.specs.Borrow.{follows_so, MutBor, Fml}
 use mathlib.Core.Option.{none}

@@ -1,4 +1,4 @@
--- Records, and a list of them up to a refusal.
+-- Statement: records, and a list of them up to a refusal.
 use Rattle.std.specs.Prelude.{ℕ, ℤ, List, [], ◌∷◌, Option, Some, None}
 use Rattle.frame_file.specs.declared.fault.RecordFault.{RecordFault}
 use Rattle.frame_file.specs.declared.fault.RecordFault.TheVariants.{Tag, ReadFault, NoMemory}

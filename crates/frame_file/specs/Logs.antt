@@ -1,4 +1,4 @@
--- Recorded logs: element documents in which each element named Telegram, at any depth, is a record.
+-- Statement: recorded logs: element documents in which each element named Telegram, at any depth, is a record.
 use Rattle.std.specs.Prelude.{ℕ, ℤ, pos, ◌==◌, ◌||◌, nat_lt, Bool, false, if◌then◌else◌, List, [], ◌∷◌, length, codes, Option, Some, None, Result, Ok, Err}
 use Rattle.std.specs.Option.{option_map}
 use Rattle.std.specs.Result.{result_ok}

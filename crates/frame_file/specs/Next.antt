@@ -1,4 +1,4 @@
--- What a call for the next record does.
+-- Statement: what a call for the next record does.
 use Rattle.std.specs.Prelude.{◌≡◌, ℕ, ◌⊎◌, Bool, true, false, Option, Some, None, IsSome, Result, Ok, Err}
 use Rattle.knx_base.specs.Files.{Seen}
 use Rattle.frame_file.specs.Lists.{Entry}

@@ -1,4 +1,5 @@
--- What a reader of records does, said by what is left: the records that are still to be given, and the refusal.
+-- Statement: what a reader of records does, said by what is left: the records that are still to be given, and the
+-- refusal.
 use Rattle.std.specs.Prelude.{◌≡◌, ◌≢◌, ℕ, ◌+◌, ◌≤◌, Bool, true, false, List, [], ◌∷◌, length, drop, IsSome, IfSome, Result, Ok, Err}
 use Rattle.std.specs.Str.Lines.{lines}
 use Rattle.knx_base.specs.Faults.{Rose}

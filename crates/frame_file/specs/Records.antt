@@ -1,5 +1,5 @@
--- Which records a file has. In a list of frames each line that is not skipped is one word, the octets of a record in
--- hexadecimal; in a recorded log each element named Telegram is a record.
+-- Statement: which records a file has. In a list of frames each line that is not skipped is one word, the octets of a
+-- record in hexadecimal; in a recorded log each element named Telegram is a record.
 use Rattle.std.specs.Prelude.{◌≡◌, ℕ, ◌+◌, nat_lt, Bool, true, false, if◌then◌else◌, List, [], ◌∷◌, ◌++◌, length, map, Option, Some, None, IsSome, Result, Ok, Err}
 use Rattle.std.specs.List.{filter_map}
 use Rattle.std.specs.Str.Lines.{lines}

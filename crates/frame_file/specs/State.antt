@@ -1,4 +1,4 @@
--- What a contract sees of a reader.
+-- Statement: what a contract sees of a reader.
 use Rattle.frame_file.specs.Reader.{ReaderState}
 use Rattle.frame_file.specs.declared.reader.Reader.{Reader}
 

@@ -1,4 +1,4 @@
--- The report and the status of a command, and how what was written is of them.
+-- Statement: the report and the status of a command, and how what was written is of them.
 use Rattle.std.specs.Prelude.{◌≡◌, ℕ, List, ◌++◌, Option, Result, Ok, Err}
 use Rattle.std.specs.Io.KnownBytes.{append_known}
 use Rattle.knx_base.specs.Sink.{AppendsPrefix}

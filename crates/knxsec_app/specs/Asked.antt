@@ -1,4 +1,4 @@
--- What the program's own command asks for.
+-- Plumbing: what the program's own command asks for.
 use Rattle.std.specs.Prelude.{List, Option}
 use Rattle.std.specs.Option.{option_map}
 use Rattle.std.specs.Borrow.{Bor}

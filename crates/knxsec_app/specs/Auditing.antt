@@ -1,4 +1,4 @@
--- What an audit answers: a line for each record, by those before it, and the total.
+-- Statement: what an audit answers: a line for each record, by those before it, and the total.
 use Rattle.std.specs.Prelude.{ℕ, ◌==◌, nat_lt, if◌then◌else◌, List, [], ◌∷◌, length, codes, Option, Some, None, Result, Ok, Err}
 use Rattle.std.specs.Str.Lines.{lines}
 use Rattle.text_lines.specs.declared.whole_file.FileFault.{FileFault}

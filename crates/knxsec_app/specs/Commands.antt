@@ -1,4 +1,4 @@
--- The answer of a whole command, as a function of its words and files.
+-- Statement: the answer of a whole command, as a function of its words and files.
 use Rattle.std.specs.Prelude.{◌≡◌, ◌≢◌, ℕ, List, [], ◌∷◌, ◌++◌, length, codes, Option, Some, None, unwrap_or, Ok, IsOk, IsErr}
 use Rattle.knx_base.specs.Files.{File, Seen, IsThere, octets_named}
 use Rattle.judge_rules.specs.declared.verdict.Verdict.{Verdict}

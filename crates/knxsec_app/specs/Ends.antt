@@ -1,4 +1,4 @@
--- How a status came about, where files were read and a report was written.
+-- Plumbing: how a status came about, where files were read and a report was written.
 use Rattle.std.specs.Prelude.{◌≡◌, ◌≢◌, ◌⊎◌, ℕ, ◌≤◌, List, [], ◌∷◌, length, Option, Some, IsSome, Result, Ok, Err}
 use Rattle.knx_base.specs.Faults.{Rose}
 use Rattle.knx_base.specs.Files.{Seen}
@@ -7,17 +7,7 @@ use Rattle.knxsec_app.specs.declared.status.Status.{Status}
 use Rattle.knxsec_app.specs.declared.status.Status.TheVariants.{Done, Usage, ReadFault, WriteFault, NoMemory}
 use Rattle.knxsec_app.specs.Answer.{Answer, Answers}
 use Rattle.knxsec_app.specs.Commands.{IsServed, OpensJust}
-
--- A fault of reading or of writing is answered only where its count rose, and neither count falls. The files' count
--- rises only where a fault of reading is answered, and the sink's only where one of the two is: all else was answered
--- without a fault.
-pub record IsCounted (seen later_seen : Seen) (before now : ℕ) (status : Status) : Type 0 where
-  pub read_fault : status ≡ ReadFault → Rose seen.faults later_seen.faults
-  pub write_fault : status ≡ WriteFault → Rose before now
-  pub files_kept : status ≢ ReadFault → later_seen.faults ≡ seen.faults
-  pub kept : status ≢ ReadFault → status ≢ WriteFault → now ≡ before
-  pub files_later : seen.faults ≤ later_seen.faults
-  pub later : before ≤ now
+use Rattle.knxsec_app.specs.Counted.{IsCounted}
 
 -- by a sink alone, whose counts of faults these are
 pub record EndsWriting (before now : ℕ) (status : Status) : Type 0 where

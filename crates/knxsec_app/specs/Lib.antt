@@ -2,6 +2,7 @@ pub mod Answer
 pub mod Asked
 pub mod Auditing
 pub mod Commands
+pub mod Counted
 pub mod Encoding
 pub mod Ends
 pub mod Opening

@@ -1,4 +1,4 @@
--- What opening a frame under a key answers: the first check that fails, or the APDU.
+-- Statement: what opening a frame under a key answers: the first check that fails, or the APDU.
 use Rattle.std.specs.Prelude.{ℕ, List, [], ◌∷◌, ◌++◌, Option, None, option_map}
 use Rattle.cemi_frames.specs.Frames.{Telegram}
 use Rattle.cemi_frames.specs.Faults.{frame_fault}

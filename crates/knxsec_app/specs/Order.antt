@@ -1,4 +1,4 @@
--- In which order a command opens the files that it names.
+-- Statement: in which order a command opens the files that it names.
 use Rattle.std.specs.Prelude.{◌≡◌, ◌≢◌, ◌⊎◌, ℕ, List, [], ◌∷◌, ◌++◌, length, Option, Some, None, IsSome}
 use Rattle.knx_base.specs.Files.{File, Seen}
 use Rattle.knxsec_app.specs.declared.status.Status.{Status}

@@ -1,4 +1,4 @@
--- Text that waits in a page of its own before it goes to a sink.
+-- Plumbing: text that waits in a page of its own before it goes to a sink.
 use Rattle.std.specs.Prelude.{◌≡◌, ◌⊎◌, ℕ, List, ◌++◌, Option, Result, MatchResult}
 use Rattle.std.specs.Io.KnownBytes.{append_known}
 use Rattle.knx_base.specs.Faults.{Rose}

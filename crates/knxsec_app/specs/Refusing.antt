@@ -1,4 +1,4 @@
--- The line that tells which file is refused, and why.
+-- Statement: the line that tells which file is refused, and why.
 use Rattle.std.specs.Prelude.{◌≡◌, ℕ, List, [], ◌∷◌, ◌++◌, codes, Option, Some, None}
 use Rattle.std.specs.Fmt.{decimal}
 use Rattle.knx_base.specs.Cause.{cause_word}

@@ -1,4 +1,4 @@
--- The numbers with which a process ends, and what standard error is told.
+-- Statement: the numbers with which a process ends, and what standard error is told.
 use Rattle.std.specs.Prelude.{ℕ, List, codes, Option, Some, None}
 use Rattle.knxsec_app.specs.declared.status.Status.{Status}
 use Rattle.knxsec_app.specs.declared.status.Status.TheVariants.{Done, Alarm, Usage, Refused, ReadFault, WriteFault, NoMemory}

@@ -5,7 +5,7 @@ ghost use Rattle.knx_base.specs.Files.{File};
 ghost use Rattle.knxsec_app.specs.Words.{command_of};
 ghost use Rattle.knxsec_app.specs.Answer.{Answers};
 ghost use Rattle.knxsec_app.specs.Commands.{answer_of, AreFiles, AreThere, LeavesAlone, Plays};
-ghost use Rattle.knxsec_app.specs.Ends.{IsCounted};
+ghost use Rattle.knxsec_app.specs.Counted.{IsCounted};
 ghost use Rattle.knxsec_app.specs.Order.{UsesFiles};
 ghost use Rattle.knxsec_app.specs.Reasons.{HaveReasons};
 
