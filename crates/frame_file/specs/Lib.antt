@@ -6,7 +6,8 @@ pub mod LeadView
 pub mod LogTurns
 pub mod LogReads
 pub mod Reader
+pub mod Ahead
+pub mod Next
 pub mod State
 pub mod Stages
-pub mod Next
 pub mod Given

@@ -1,5 +1,5 @@
--- Statement: what a reader of records does, said by what is left: the records that are still to be given, and the
--- refusal.
+-- Plumbing: what a reader of records does, said by what is held and what is left: the records that are still to be
+-- given, and the refusal.
 use Rattle.std.specs.Prelude.{◌≡◌, ◌≢◌, ℕ, ◌+◌, ◌≤◌, Bool, true, false, List, [], ◌∷◌, length, drop, IsSome, IfSome, Result, Ok, Err}
 use Rattle.std.specs.Str.Lines.{lines}
 use Rattle.knx_base.specs.Faults.{Rose}

@@ -1,6 +1,5 @@
 use crate::RecordFault;
 use crate::reader::Reader;
-use crate::stage::Stage;
 use knx_base::{Files, NoMemory};
 use std::alloc::Global;
 use std::marker::Model;
@@ -20,7 +19,8 @@ pub struct Record<'a> {
 /// list of frames: each line is the octets of one in hexadecimal, and a line without words or whose first word begins
 /// with `#` is skipped. A list takes no memory: the value has room for one line.
 ///
-/// A contract sees how far it is, and the fault that is answered from now on, if there is one.
+/// A contract sees how many records were given, the fault that is answered from now on, if there is one, and the records
+/// that are left, by the octets of the file that are still to be read. What was read ahead is no part of it.
 #[derive(Drop)]
 pub struct Records {
     alloc: Global,
@@ -30,35 +30,30 @@ pub struct Records {
 
 impl Model for Records {
     ghost use Rattle.frame_file.specs.Next.{RecordsState};
-    ghost use Rattle.frame_file.specs.State.{state_of};
+    ghost use Rattle.frame_file.specs.State.{state_of, shown, Stands, records_code};
+    ghost use Rattle.std.specs.Prelude.{◌≡◌, None};
 
     ghost Value = { RecordsState };
 
-    ghost view = { λ r. record { reader = state_of r.reader; fault = r.fault } };
+    ghost coded = { records_code };
+
+    ghost view = { λ r. shown r.fault (state_of r.reader) };
+
+    ghost invariant = { λ r. r.fault ≡ None → Stands (state_of r.reader) };
 }
 
 impl Records {
-    ghost use Rattle.std.specs.Prelude.{◌≡◌, ◌≢◌, ◌≤◌, ℕ, List, [], None, Err, IfOk};
+    ghost use Rattle.std.specs.Prelude.{◌≡◌, ◌≢◌, ◌≤◌, ℕ, List, Err, IfOk};
     ghost use Rattle.std.specs.Borrow.{sem};
     ghost use Rattle.std.specs.Str.Lines.{lines};
-    ghost use Rattle.frame_file.specs.Lists.{untimed};
-    ghost use Rattle.frame_file.specs.Next.{IsReading, Goes};
+    ghost use Rattle.frame_file.specs.Next.{IsFresh, IsReading, Goes};
     ghost use Rattle.frame_file.specs.Records.{IsListOf, listed_in};
     ghost use Rattle.frame_file.specs.Given.{Gives, EndsSo};
 
     /// Ready for a file that was opened and of which nothing was read.
     #[tactic(auto, using(crate::proofs::ListLemmas::is_list))]
     pub fn new(alloc: Global) -> Result<Records, NoMemory>
-        ensures start { IfOk result (λ records. records ≡ record {
-          reader = record {
-            stage = Stage.Start;
-            lines = 0;
-            given = 0;
-            held = [];
-            record_ = untimed [];
-          };
-          fault = None;
-        }) }
+        ensures start { IfOk result IsFresh }
         ensures lists { (octets : List ℕ) → IsListOf (lines octets) (listed_in octets) }
     {
         Ok(Records {
@@ -103,9 +98,9 @@ impl Records {
     }
 
     fn record(&self) -> Record<'_>
-        ensures number { result.number ≡ self.now.reader.given }
-        ensures octets { result.octets.now ≡ self.now.reader.record_.octets }
-        ensures time { result.time ≡ self.now.reader.record_.time }
+        ensures number { result.number ≡ self.now.given }
+        ensures octets { result.octets.now ≡ self.now.last.octets }
+        ensures time { result.time ≡ self.now.last.time }
     {
         Record {
             number: self.reader.given(),
