@@ -1,7 +1,7 @@
 use Rattle.std.proofs.Common.{rules, arith, ◌+◌, ap, sym, ◌∙◌}
 use Rattle.knx_base.specs.Files.{Seen}
-use Rattle.text_lines.proofs.Readers.{goes_then, others_then, takes_less}
-use Rattle.knxsec_app.proofs.SoFar.{goes_on, wants_memory, stops_at_line, finishes, refuses, reads_to_end, some_given, none_given, fault_given, gives_told, gives_others, first_left, few_given}
+use Rattle.text_lines.proofs.Readers.{goes_then, others_then}
+use Rattle.knxsec_app.proofs.SoFar.{goes_on, wants_memory, stops_at_line, finishes, refuses, reads_to_end, some_given, none_given, fault_given, gives_told, gives_others, few_given}
 use Rattle.knxsec_app.proofs.auditing.audit_current.Goals as goal
 
 pub records-preserved : goal.records-preserved
@@ -14,16 +14,15 @@ records-preserved g c =
     c.in-Ok-Some.field-0-is c.next.follows.holds-at-none in
     record {
       no_fault = given.still_none;
-      at = given.gives.at;
-      goes = goes_then start now later _ _ _ 0 0 before.goes (takes_less now later _ _ _ _ 0 (omega (arith))
-          given.gives.goes);
-      counted = c.in-Ok-frame.ensures.counted ∙ ap (λ n. n + 1) before.counted ∙ sym given.gives.counted;
-      few = omega (arith, given.gives.few, few_given c.next.follows.lender-at-none.reader.stage);
+      at = given.at;
+      goes = goes_then start now later _ _ _ 0 0 before.goes given.reads;
+      counted = c.in-Ok-frame.ensures.counted ∙ ap (λ n. n + 1) before.counted
+          ∙ sym (given.number_is.1 ∙ given.number_is.0);
+      few = omega (arith, given.few, given.number_is.1, few_given c.next.follows.lender-at-none.log);
       so_far = goes_on (g.W.Showing.shown c.args.showing.now) start now later _ _ _ _ _ _ _ _ _ _ _ _
           c.in-Ok-frame.line _
           (c.show-behind.ensures ∙ ap (g.W.Showing.shown c.args.showing.now c.in-Ok-frame.line) c.bytes.ensures.octets)
-          before.so_far before.goes
-          (first_left now later _ _ _ _ given)
+          before.so_far before.goes given.left_is
           (λ past knows. (c.in-Ok-frame.ensures.line past knows, c.in-Ok-frame.ensures.knows past knows))
           c.frame.ensures.rows c.in-Ok-frame.ensures.opened c.in-Ok-pass_line.ensures.text;
       kept = search rules;
@@ -43,9 +42,9 @@ returns-in_default-pass_line-clause-answer g c =
     let given = some_given now later _ _ c.next.result c.in-Ok-Some.field-0 c.in-Ok-Some.record c.in-Ok-Some.is
     c.in-Ok-Some.field-0-is c.next.follows.holds-at-none in
     stops_at_line (g.W.Showing.shown c.args.showing.now) (g.F.Files.seen c.args.files.now) now later _ _ _ _
-    c.next.follows.lender-at-none.reader _ _ _ _ _ _ c.in-Ok-frame.line _
+    c.next.follows.lender-at-none _ _ _ _ _ _ c.in-Ok-frame.line _
     (c.show-behind.ensures ∙ ap (g.W.Showing.shown c.args.showing.now c.in-Ok-frame.line) c.bytes.ensures.octets)
-    before.so_far before.goes (first_left now later _ _ _ _ given)
+    before.so_far before.goes given.left_is
     (λ past knows. (c.in-Ok-frame.ensures.line past knows, c.in-Ok-frame.ensures.knows past knows))
     c.in-Ok-frame.ensures.opened c.in_default-pass_line.ensures.text
 
@@ -57,7 +56,7 @@ returns-in-Ok-None-clause-answer g c =
     c.in-Ok-None.field-0-is c.next.follows.holds-at-none in
     finishes (g.W.Showing.shown c.args.showing.now) (g.F.Files.seen c.args.files.now) now _ _ _ _ _ _ _ _
     before.so_far before.goes
-    (λ all has. (given.ends.none_left all has).0) c.finish.ensures.answer
+    (λ all has. (given.none_left all has).0) c.finish.ensures.answer
 
 pub returns-in-Ok-None-clause-whole : goal.returns-in-Ok-None-clause-whole
 returns-in-Ok-None-clause-whole g c whole =
@@ -65,8 +64,8 @@ returns-in-Ok-None-clause-whole g c whole =
     let now : Seen = g.F.Files.seen c.records.files in
     let given = none_given now (g.F.Files.seen c.next.new.files) _ _ c.next.result c.in-Ok-None.field-0 c.in-Ok-None.is
     c.in-Ok-None.field-0-is c.next.follows.holds-at-none in
-    reads_to_end (g.F.Files.seen c.args.files.now) now (g.F.Files.seen c.next.new.files) _ _ c.requires.start
-    before.goes given.ends.goes given.ends.whole
+    reads_to_end (g.F.Files.seen c.args.files.now) now (g.F.Files.seen c.next.new.files) c.requires.start
+    before.goes given.reads given.whole
 
 pub returns-in-Err-clause-answer : goal.returns-in-Err-clause-answer
 returns-in-Err-clause-answer g c =
