@@ -97,8 +97,8 @@ Refuses seen later state NoMemory = TakesMemory seen state
 Refuses seen later state (Tag tag.NoMemory) = ⊥
 Refuses seen later state fault = WhereTold seen (λ octets. left seen state octets ≡ refused_by fault)
 
--- What a fault leaves: the files tell the same, no record was given, and no place changed but in the current file, which
--- was read on unless the files failed.
+-- What a fault leaves: the files tell the same, no record was given, and no place changed but in the current file,
+-- which was read on unless the files failed.
 pub record Leaves (seen later : Seen) (old new : ReaderState) (fault : RecordFault) : Type 0 where
   pub told : later.told ≡ seen.told
   pub counted : new.given ≡ old.given

@@ -19,8 +19,8 @@ pub struct Record<'a> {
 /// list of frames: each line is the octets of one in hexadecimal, and a line without words or whose first word begins
 /// with `#` is skipped. A list takes no memory: the value has room for one line.
 ///
-/// A contract sees how many records were given, the fault that is answered from now on, if there is one, and the records
-/// that are left, by the octets of the file that are still to be read. What was read ahead is no part of it.
+/// A contract sees how many records were given, the fault that is answered from now on, if there is one, and the
+/// records that are left, by the octets of the file that are still to be read. What was read ahead is no part of it.
 #[derive(Drop)]
 pub struct Records {
     alloc: Global,
