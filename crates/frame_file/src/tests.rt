@@ -165,36 +165,39 @@ fn elements_of_other_forms_are_refused(rt: HostRuntime) -> Result<(), Fail> {
 // More than one piece is read of each.
 #[test]
 fn both_kinds_are_read_in_pieces(rt: HostRuntime) -> Result<(), Fail> {
-    let mut files = MemFiles::new(rt.alloc());
     let mut list = Vec::new(rt.alloc());
     list.resize(1000, b'\n')?;
     list.extend_from_slice(b"00")?;
-    files.add("list", &list)?;
-    let mut log = Vec::new(rt.alloc());
-    log.resize(1000, b' ')?;
-    log.extend_from_slice(b"<Log>")?;
-    log.resize(2000, b'x')?;
-    log.extend_from_slice(b"<Telegram Timestamp='1970-01-01T00:00:00Z' RawData='ff'/></Log>")?;
-    files.add("log", &log)?;
-    files.open("list").ok().ok_or("not opened")?;
-    let mut records = Records::new(rt.alloc())?;
     let listed = Record {
         number: 1,
         time: None,
         octets: &[0],
     };
-    assert_eq!(rt; records.next(&mut files), Ok(Some(listed)));
-    assert_eq!(rt; records.next(&mut files), Ok(None));
-    files.open("log").ok().ok_or("not opened")?;
-    let mut records = Records::new(rt.alloc())?;
+    assert!(rt; is_all_of(rt.alloc(), &list, listed)?);
+    let mut log = Vec::new(rt.alloc());
+    log.resize(1000, b' ')?;
+    log.extend_from_slice(b"<Log>")?;
+    log.resize(2000, b'x')?;
+    log.extend_from_slice(b"<Telegram Timestamp='1970-01-01T00:00:00Z' RawData='ff'/></Log>")?;
     let logged = Record {
         number: 1,
         time: Some(0),
         octets: &[0xff],
     };
-    assert_eq!(rt; records.next(&mut files), Ok(Some(logged)));
-    assert_eq!(rt; records.next(&mut files), Ok(None));
+    assert!(rt; is_all_of(rt.alloc(), &log, logged)?);
     Ok(())
+}
+
+// Whether this is the only record of a file.
+fn is_all_of(alloc: Global, text: &[u8], record: Record<'_>) -> Result<bool, Fail>
+    requires { length text.now ≤ 2 ^ 40 }
+{
+    let mut files = MemFiles::new(alloc);
+    files.add("frames", text)?;
+    files.open("frames").ok().ok_or("not opened")?;
+    let mut records = Records::new(alloc)?;
+    let given = records.next(&mut files) == Ok(Some(record));
+    Ok(records.next(&mut files) == Ok(None) && given)
 }
 
 // The fault of the first call.
